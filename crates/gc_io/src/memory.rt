@@ -202,3 +202,38 @@ impl Sink for MemSink {
         Ok(())
     }
 }
+
+#[cfg(test)]
+mod tests {
+    use super::*;
+    use std::test::Fail;
+
+    #[test]
+    fn a_source_fails_at_its_numbered_calls(rt: HostRuntime) -> Result<(), Fail> {
+        let bytes = vec![in rt.alloc(); b'a', b'b', b'c']?;
+        let fails = vec![in rt.alloc(); 2, 4]?;
+        let mut source = MemSource::new(bytes, 2, fails);
+        let mut buffer = [0u8; 8];
+        assert_eq!(rt; source.read(&mut buffer), Ok(2));
+        assert_eq!(rt; source.read(&mut buffer), Err(Failed));
+        assert_eq!(rt; source.read(&mut buffer[2..]), Ok(1));
+        assert_eq!(rt; source.read(&mut buffer), Err(Failed));
+        assert_eq!(rt; source.read(&mut buffer), Ok(0));
+        assert_eq!(rt; &buffer[..3], b"abc".as_slice());
+        Ok(())
+    }
+
+    #[test]
+    fn a_sink_fails_at_its_numbered_calls_and_at_its_room(rt: HostRuntime) -> Result<(), Fail> {
+        let fails = vec![in rt.alloc(); 2, 4]?;
+        let mut sink = MemSink::with_room(rt.alloc(), 3, 2, fails)?;
+        assert_eq!(rt; sink.write(b"abc"), Ok(2));
+        assert_eq!(rt; sink.write(b"c"), Err(Failed));
+        assert_eq!(rt; sink.write(b"cd"), Ok(1));
+        assert_eq!(rt; sink.flush(), Err(Failed));
+        assert_eq!(rt; sink.flush(), Ok(()));
+        assert_eq!(rt; sink.write(b"d"), Err(Failed));
+        assert_eq!(rt; sink.written(), b"abc".as_slice());
+        Ok(())
+    }
+}

@@ -115,3 +115,31 @@ impl<W: Write> Sink for StdSink<W> {
         }
     }
 }
+
+#[cfg(test)]
+mod tests {
+    use super::*;
+    use std::test::Fail;
+
+    #[test]
+    fn a_source_gives_the_bytes_of_its_reader(rt: HostRuntime) -> Result<(), Fail> {
+        let mut source = StdSource::new(b"abc".as_slice());
+        let mut buffer = [0u8; 2];
+        assert_eq!(rt; source.read(&mut buffer), Ok(2));
+        assert_eq!(rt; buffer.as_slice(), b"ab".as_slice());
+        assert_eq!(rt; source.read(&mut buffer), Ok(1));
+        assert_eq!(rt; buffer[0], b'c');
+        assert_eq!(rt; source.read(&mut buffer), Ok(0));
+        Ok(())
+    }
+
+    #[test]
+    fn a_sink_hands_its_bytes_to_its_writer(rt: HostRuntime) -> Result<(), Fail> {
+        let mut sink = StdSink::new(Vec::new(rt.alloc()));
+        assert_eq!(rt; sink.write(b"abc"), Ok(3));
+        assert_eq!(rt; sink.write(b"d"), Ok(1));
+        assert_eq!(rt; sink.flush(), Ok(()));
+        assert_eq!(rt; sink.inner.as_slice(), b"abcd".as_slice());
+        Ok(())
+    }
+}
