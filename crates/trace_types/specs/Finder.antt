@@ -1,0 +1,58 @@
+-- Why an object is kept, and how much it holds: walks along strong references.
+use Rattle.std.specs.Prelude.{ℕ, zero, suc, ◌==◌, List, [], ◌∷◌, ◌++◌, map, filter, flat_map, length, Option, Some, None, if◌then◌else◌}
+use Rattle.trace_types.specs.declared.kind.Kind.{Kind}
+use Rattle.trace_types.specs.declared.kind.Kind.TheVariants.{Weak}
+use Rattle.trace_types.specs.Values.{Value, objects_in, Object, Graph, object_at, strong_values}
+use Rattle.trace_types.specs.Rules.{has, least, facts}
+use Rattle.trace_types.specs.Kept.{strong_rules}
+
+-- ---- steps
+
+-- the index of the first strong value: the car of a weak pair is none
+abbrev pub first_index : Kind → ℕ
+first_index Weak = 1
+first_index _ = 0
+
+-- to each object among the values, with the index of the value, counted from the number
+abbrev pub indexed : ℕ → List Value → List (ℕ × ℕ)
+indexed n [] = []
+indexed n (v ∷ vs) = map (λ x. (n, x)) (objects_in (v ∷ [])) ++ indexed (suc n) vs
+
+-- the steps of an object: its strong references, each with its index among the fields or in the queue
+abbrev pub steps : Object → List (ℕ × ℕ)
+steps o = indexed (first_index o.kind) (strong_values o)
+
+abbrev pub steps_at : Option Object → List (ℕ × ℕ)
+steps_at None = []
+steps_at (Some o) = steps o
+
+-- ---- walks
+
+-- the walks of so many steps from a to b, in the order of lists by their numbers from the left
+abbrev pub walks : Graph → ℕ → ℕ → ℕ → List (List ℕ)
+walks graph zero a b = if a == b then [] ∷ [] else []
+walks graph (suc n) a b = flat_map (λ s. map (λ walk. s.0 ∷ walk) (walks graph n s.1 b)) (steps_at (object_at graph a))
+
+-- the first walk of the list, or else the other
+abbrev pub first_or : List (List ℕ) → (Unit {0} → Option (List ℕ)) → Option (List ℕ)
+first_or [] other = other tt
+first_or (walk ∷ rest) other = Some walk
+
+-- the first of the walks of n steps, or where there are none of those of n + 1 steps, and so on, trying so many lengths
+abbrev pub shortest : Graph → ℕ → ℕ → ℕ → ℕ → Option (List ℕ)
+shortest graph zero n a b = None
+shortest graph (suc more) n a b = first_or (walks graph n a b) (λ _. shortest graph more (suc n) a b)
+
+-- Among the walks of least length from a to b, the first. Such a walk comes to no object twice.
+unfoldable pub path : Graph → ℕ → ℕ → Option (List ℕ)
+path graph a b = shortest graph (length graph) 0 a b
+
+-- ---- what is reached
+
+-- the least set that holds a and every object to which a step of a member leads
+unfoldable pub reach : Graph → ℕ → List ℕ
+reach graph a = least (facts (a ∷ []) ++ flat_map (λ entry. strong_rules entry.0 entry.1) graph)
+
+-- the objects that are reached from a
+abbrev pub reached : Graph → ℕ → Graph
+reached graph a = let set = reach graph a in filter (λ entry. has set entry.0) graph

@@ -1,0 +1,17 @@
+pub mod Words
+pub mod Faults
+pub mod Values
+pub mod States
+pub mod Rules
+pub mod Kept
+pub mod Closed
+pub mod Collections
+pub mod Printing
+pub mod Tables
+pub mod Finder
+pub mod Steps
+pub mod Lines
+pub mod Reading
+pub mod Run
+pub mod Runs
+pub mod Workloads
