@@ -23,5 +23,5 @@ line_turn step limits s n line =
     else performed step s n (read line)
 
 -- the run of a trace from the opening state, over its lines from line 1 on
-unfoldable pub run : (State → ℕ → Command → Answer) → Limits → List ℕ → Ran State
+abbrev pub run : (State → ℕ → Command → Answer) → Limits → List ℕ → Ran State
 run step limits bytes = run_from (line_turn step limits) (opening limits.generations) 1 (lines_of bytes)
