@@ -1,5 +1,5 @@
 -- Values in range, bytes, and ascending lines.
-use Rattle.std.proofs.Common.{ℕ, zero, suc, ◌<◌, ◌^◌, pos, negsuc, Bool, true, false, List, [], ◌∷◌, ◌++◌, map, filter, set, replicate, slice_index_or, cond, IsTrue, refl, ◌∙◌, arith, nat_lt}
+use Rattle.std.proofs.Common.{◌≡◌, ℕ, zero, suc, ◌<◌, ◌^◌, pos, negsuc, Bool, true, false, List, [], ◌∷◌, ◌++◌, map, filter, set, replicate, slice_index_or, cond, IsTrue, refl, ◌∙◌, arith, nat_lt}
 use Rattle.std.specs.List.{list_all, AllByRecursion}
 use Rattle.std.proofs.lemmas.Bool.{and_parts, and_from, ltb-true, lt-ltb, false≢true}
 use Rattle.std.proofs.lemmas.List.Folds.{list_all-append}
@@ -9,6 +9,7 @@ use Rattle.trace_types.specs.Values.{Value, fixnum, nil, true_value, false_value
 use Rattle.trace_types.specs.States.{Registration}
 use Rattle.trace_types.specs.Collections.{fields_left, unless_outside}
 use Rattle.trace_types.specs.Kept.{is_outside}
+use Rattle.trace_types.specs.Tables.{is_table, is_entry}
 use Rattle.trace_types.specs.WellFormed.{fields_fit, is_ascending}
 
 -- ---- tests of all values of a list
@@ -86,6 +87,35 @@ fields_left_fit set ImmBytes fields h = h
 fields_left_fit set Guard fields h = h
 fields_left_fit set OrderedGuard fields h = h
 fields_left_fit set Cell fields h = h
+
+-- ---- kinds without bytes
+
+-- neither a table nor an entry has bytes
+pub table_has_values : (kind : Kind) → IsTrue (is_table kind) → has_bytes kind ≡ false
+table_has_values Vector h = refl
+table_has_values ImmVector h = refl
+table_has_values Pair h = refl
+table_has_values Weak h = refl
+table_has_values Eph h = refl
+table_has_values Boxed h = refl
+table_has_values Bytes h = absurd (false≢true h)
+table_has_values ImmBytes h = absurd (false≢true h)
+table_has_values Guard h = refl
+table_has_values OrderedGuard h = refl
+table_has_values Cell h = refl
+
+pub entry_has_values : (kind : Kind) → IsTrue (is_entry kind) → has_bytes kind ≡ false
+entry_has_values Pair h = refl
+entry_has_values Weak h = refl
+entry_has_values Eph h = refl
+entry_has_values Vector h = refl
+entry_has_values ImmVector h = refl
+entry_has_values Boxed h = refl
+entry_has_values Bytes h = absurd (false≢true h)
+entry_has_values ImmBytes h = absurd (false≢true h)
+entry_has_values Guard h = refl
+entry_has_values OrderedGuard h = refl
+entry_has_values Cell h = refl
 
 -- ---- ascending lines
 
