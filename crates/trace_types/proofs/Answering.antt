@@ -15,7 +15,7 @@ use Rattle.trace_types.specs.States.{State, Answer, Registration, Note, set_to, 
 use Rattle.trace_types.specs.Rules.{has, ◌⊆◌}
 use Rattle.trace_types.specs.Faults.{◌>>=◌}
 use Rattle.trace_types.specs.Steps.{greatest_length, found_object, object_of, guardian_of, fielded_of, within, not_too_long, take_first, with_registration, with_lock_count}
-use Rattle.trace_types.specs.WellFormed.{fields_fit, operand_fits, is_ascending, registration_lines, greatest_line, IsObject, IsWellFormed, IsNext, has_its_fields, births, numbers, occurrences, noted, named_by_object, named_by_registration}
+use Rattle.trace_types.specs.WellFormed.{fields_fit, operand_fits, is_ascending, registration_lines, IsObject, IsWellFormedTo, IsNext, has_its_fields, births, numbers, occurrences, noted, named_by_object, named_by_registration}
 use Rattle.trace_types.specs.Kept.{is_of_kind}
 use Rattle.std.specs.Bool.{passes}
 use Rattle.std.specs.FinMap.{is_sorted, put}
@@ -31,9 +31,9 @@ use Rattle.trace_types.proofs.Named.{append_left_sub, append_right_sub, append_s
 use Rattle.trace_types.proofs.Stepping.{none_above, first, register_well_formed, new_well_formed, new_birth, queue_lines, each_put_any, made, changed_well_formed, objects_in_set, births_put}
 
 -- the new state, where there is one, is well formed
-abbrev pub IsWellAnswered : Answer → Type 0
-IsWellAnswered (Ok answer) = IsWellFormed answer.0
-IsWellAnswered (Err fault) = Unit {0}
+abbrev pub IsWellAnswered : ℕ → Answer → Type 0
+IsWellAnswered last (Ok answer) = IsWellFormedTo last answer.0
+IsWellAnswered last (Err fault) = Unit {0}
 
 -- ---- what the operands give
 
@@ -75,7 +75,7 @@ each_key_in : (xs : List ℕ) (es : List (ℕ × ℕ)) → map key_in es ⊆ xs 
 each_key_in xs [] h = tt
 each_key_in xs (e ∷ es) h = (h e.0 (or_left (e.0 == e.0) (has (map key_in es) e.0) (eq-eqb e.0 e.0 refl)), each_key_in xs es (append_right_sub (e.0 ∷ []) (map key_in es) xs h))
 
-module _ (s : State) (well : IsWellFormed s) where
+module _ (last : ℕ) (s : State) (well : IsWellFormedTo last s) where
   pub register_there : (r : ℕ) → objects_in (register_value s r ∷ []) ⊆ births s
   register_there r = slot_there s.registers r (births s) (names_parts s (births s) well.in_graph).registers
 
@@ -104,16 +104,16 @@ module _ (s : State) (well : IsWellFormed s) where
   copies_there v (suc n) h = objects_both (v ∷ []) (replicate n v) (births s) h (copies_there v n h)
 
   -- a new object in a register
-  pub made_well_formed : (line d : ℕ) (kind : Kind) (fields : List Value) → IsNext s line → IsTrue (has_its_fields kind fields) → IsTrue (fields_fit kind fields) → objects_in fields ⊆ births s → IsWellFormed (with_new s line d kind fields)
-  made_well_formed line d kind fields next shape fits there =
-      register_well_formed (with_object s line (made s line kind fields well next shape fits there)) d (object line) (new_well_formed s line kind fields well next shape fits there) refl (new_birth s line kind fields well next shape fits there)
+  pub made_well_formed : (line d : ℕ) (kind : Kind) (fields : List Value) → IsNext s line → line ≤ last → IsTrue (has_its_fields kind fields) → IsTrue (fields_fit kind fields) → objects_in fields ⊆ births s → IsWellFormedTo last (with_new s line d kind fields)
+  made_well_formed line d kind fields next within shape fits there =
+      register_well_formed last (with_object s line (made last s line kind fields well next within shape fits there)) d (object line) (new_well_formed last s line kind fields well next within shape fits there) refl (new_birth last s line kind fields well next within shape fits there)
 
   -- ---- what is asked of the operands
 
-  pub on_object : (v : Value) (act : ℕ × Object → Answer) → ((x : ℕ) (o : Object) → object_at s.graph x ≡ Some o → IsWellAnswered (act (x, o))) → IsWellAnswered (object_of s v >>= act)
+  pub on_object : (v : Value) (act : ℕ × Object → Answer) → ((x : ℕ) (o : Object) → object_at s.graph x ≡ Some o → IsWellAnswered last (act (x, o))) → IsWellAnswered last (object_of s v >>= act)
   on_object (object x) act h = by_found (object_at s.graph x) refl
     where
-      by_found : (o : Option Object) → object_at s.graph x ≡ o → IsWellAnswered (found_object x o >>= act)
+      by_found : (o : Option Object) → object_at s.graph x ≡ o → IsWellAnswered last (found_object x o >>= act)
       by_found None found = tt
       by_found (Some o) found = h x o found
   on_object (fixnum n) act h = tt
@@ -122,14 +122,14 @@ module _ (s : State) (well : IsWellFormed s) where
   on_object false_value act h = tt
   on_object bwp act h = tt
 
-  pub on_guardian : (v : Value) (act : ℕ × Object → Answer) → ((x : ℕ) (o : Object) → object_at s.graph x ≡ Some o → IsTrue (is_guardian o.kind) → IsWellAnswered (act (x, o))) → IsWellAnswered (guardian_of s v >>= act)
+  pub on_guardian : (v : Value) (act : ℕ × Object → Answer) → ((x : ℕ) (o : Object) → object_at s.graph x ≡ Some o → IsTrue (is_guardian o.kind) → IsWellAnswered last (act (x, o))) → IsWellAnswered last (guardian_of s v >>= act)
   on_guardian (object x) act h = by_found (object_at s.graph x) refl
     where
-      by_kind : (o : Object) → object_at s.graph x ≡ Some o → (b : Bool) → is_guardian o.kind ≡ b → IsWellAnswered (cond b (Ok (x, o)) (Err WrongKind) >>= act)
+      by_kind : (o : Object) → object_at s.graph x ≡ Some o → (b : Bool) → is_guardian o.kind ≡ b → IsWellAnswered last (cond b (Ok (x, o)) (Err WrongKind) >>= act)
       by_kind o found true is = h x o found is
       by_kind o found false is = tt
 
-      by_found : (o : Option Object) → object_at s.graph x ≡ o → IsWellAnswered ((found_object x o >>= λ g. cond (is_guardian g.1.kind) (Ok g) (Err WrongKind)) >>= act)
+      by_found : (o : Option Object) → object_at s.graph x ≡ o → IsWellAnswered last ((found_object x o >>= λ g. cond (is_guardian g.1.kind) (Ok g) (Err WrongKind)) >>= act)
       by_found None found = tt
       by_found (Some o) found = by_kind o found (is_guardian o.kind) refl
   on_guardian (fixnum n) act h = tt
@@ -138,14 +138,14 @@ module _ (s : State) (well : IsWellFormed s) where
   on_guardian false_value act h = tt
   on_guardian bwp act h = tt
 
-  pub on_fielded : (v : Value) (act : ℕ × Object → Answer) → ((x : ℕ) (o : Object) → object_at s.graph x ≡ Some o → IsWellAnswered (act (x, o))) → IsWellAnswered (fielded_of s v >>= act)
+  pub on_fielded : (v : Value) (act : ℕ × Object → Answer) → ((x : ℕ) (o : Object) → object_at s.graph x ≡ Some o → IsWellAnswered last (act (x, o))) → IsWellAnswered last (fielded_of s v >>= act)
   on_fielded (object x) act h = by_found (object_at s.graph x) refl
     where
-      by_kind : (o : Object) → object_at s.graph x ≡ Some o → (b : Bool) → IsWellAnswered (cond b (Err WrongKind) (Ok (x, o)) >>= act)
+      by_kind : (o : Object) → object_at s.graph x ≡ Some o → (b : Bool) → IsWellAnswered last (cond b (Err WrongKind) (Ok (x, o)) >>= act)
       by_kind o found true = tt
       by_kind o found false = h x o found
 
-      by_found : (o : Option Object) → object_at s.graph x ≡ o → IsWellAnswered ((found_object x o >>= λ g. cond (is_guardian g.1.kind) (Err WrongKind) (Ok g)) >>= act)
+      by_found : (o : Option Object) → object_at s.graph x ≡ o → IsWellAnswered last ((found_object x o >>= λ g. cond (is_guardian g.1.kind) (Err WrongKind) (Ok g)) >>= act)
       by_found None found = tt
       by_found (Some o) found = by_kind o found (is_guardian o.kind)
   on_fielded (fixnum n) act h = tt
@@ -154,11 +154,11 @@ module _ (s : State) (well : IsWellFormed s) where
   on_fielded false_value act h = tt
   on_fielded bwp act h = tt
 
-  pub within_length : (o : Object) (index : ℕ) (answer : Answer) → IsWellAnswered answer → IsWellAnswered (within o index answer)
-  within_length o index answer h = elim (nat_lt index (length o.fields)) as (λ b. IsWellAnswered (cond b answer (Err BadIndex))) [ true ↦ h | false ↦ tt ]
+  pub within_length : (o : Object) (index : ℕ) (answer : Answer) → IsWellAnswered last answer → IsWellAnswered last (within o index answer)
+  within_length o index answer h = elim (nat_lt index (length o.fields)) as (λ b. IsWellAnswered last (cond b answer (Err BadIndex))) [ true ↦ h | false ↦ tt ]
 
-  pub short : (n : ℕ) (answer : Answer) → (IsTrue (nat_le n 4000000) → IsWellAnswered answer) → IsWellAnswered (not_too_long s n answer)
-  short n answer h = elim (nat_le n (greatest_length s)) as (λ b. nat_le n (greatest_length s) ≡ b → IsWellAnswered (cond b answer (Err BadLength))) [ true ↦ λ e. h (shorter e) | false ↦ λ e. tt ] refl
+  pub short : (n : ℕ) (answer : Answer) → (IsTrue (nat_le n 4000000) → IsWellAnswered last answer) → IsWellAnswered last (not_too_long s n answer)
+  short n answer h = elim (nat_le n (greatest_length s)) as (λ b. nat_le n (greatest_length s) ≡ b → IsWellAnswered last (cond b answer (Err BadLength))) [ true ↦ λ e. h (shorter e) | false ↦ λ e. tt ] refl
     where
       most : greatest_length s ≤ 4000000
       most = elim (s.version == 2) as (λ b. cond b 4000000 1000000 ≤ 4000000) [ true ↦ omega arith | false ↦ omega arith ]
@@ -195,11 +195,11 @@ module _ (s : State) (well : IsWellFormed s) where
       by_bytes true h k = all_set is_byte fields index v k h
       by_bytes false h k = all_set is_value fields index v k h
 
-  pub field_set_well_formed : (x : ℕ) (o : Object) (index : ℕ) (v : Value) → object_at s.graph x ≡ Some o → IsTrue (cond (has_bytes o.kind) (is_byte v) (is_value v)) → objects_in (v ∷ []) ⊆ births s → IsWellFormed (with_object s x (record o { fields = set o.fields index v }))
+  pub field_set_well_formed : (x : ℕ) (o : Object) (index : ℕ) (v : Value) → object_at s.graph x ≡ Some o → IsTrue (cond (has_bytes o.kind) (is_byte v) (is_value v)) → objects_in (v ∷ []) ⊆ births s → IsWellFormedTo last (with_object s x (record o { fields = set o.fields index v }))
   field_set_well_formed x o index v found fits there =
       let is = is_object x o found in
       let names = named_there x o found in
-      changed_well_formed s x o (record o { fields = set o.fields index v }) well found
+      changed_well_formed last s x o (record o { fields = set o.fields index v }) well found
       (record { fields = same_shape o.kind o.fields (set o.fields index v) (length-set o.fields index v) is.fields; fitting = fields_set_fit o.kind o.fields index v fits is.fitting; queue = is.queue; queue_fitting = is.queue_fitting; creator = is.creator; generation = is.generation })
       refl
       (objects_both (set o.fields index v) (queue_values o) (births s) (objects_in_set o.fields index v (births s) (objects_left o.fields (queue_values o) (births s) names) there) (objects_right o.fields (queue_values o) (births s) names))
@@ -207,8 +207,8 @@ module _ (s : State) (well : IsWellFormed s) where
 
   -- ---- queues
 
-  pub taken : (d x : ℕ) (o : Object) → object_at s.graph x ≡ Some o → IsTrue (is_guardian o.kind) → (q : List (Value × ℕ)) → o.queue ≡ q → IsWellFormed (take_first s d x o q)
-  taken d x o found guard [] e = register_well_formed s d false_value well refl (no_objects (births s))
+  pub taken : (d x : ℕ) (o : Object) → object_at s.graph x ≡ Some o → IsTrue (is_guardian o.kind) → (q : List (Value × ℕ)) → o.queue ≡ q → IsWellFormedTo last (take_first s d x o q)
+  taken d x o found guard [] e = register_well_formed last s d false_value well refl (no_objects (births s))
   taken d x o found guard (entry ∷ rest) e =
       let is = is_object x o found in
       let names = named_there x o found in
@@ -216,8 +216,8 @@ module _ (s : State) (well : IsWellFormed s) where
       let fits = and_parts (is_value entry.0) (list_all is_value (map value_in rest)) (subst (λ q. IsTrue (list_all is_value (map value_in q))) e is.queue_fitting) in
       let o' : Object = record o { queue = rest } in
       let fewer : (n : ℕ) → occurrences n (queue_lines (x, o')) ≤ occurrences n (queue_lines (x, o)) = λ n. subst (λ q. occurrences n (map line_in rest) ≤ occurrences n (map line_in q)) (sym e) (omega arith) in
-      register_well_formed (with_object s x o') d entry.0
-      (changed_well_formed s x o o' well found
+      register_well_formed last (with_object s x o') d entry.0
+      (changed_well_formed last s x o o' well found
       (record { fields = is.fields; fitting = is.fitting; queue = or_left (is_guardian o.kind) (length rest == 0) guard; queue_fitting = fits.1; creator = is.creator; generation = is.generation })
       refl
       (objects_both o.fields (map value_in rest) (births s) (objects_left o.fields (queue_values o) (births s) names) (objects_right (entry.0 ∷ []) (map value_in rest) (births s) queued))
@@ -230,8 +230,8 @@ module _ (s : State) (well : IsWellFormed s) where
 
   -- ---- registrations
 
-  pub registered : (r : Registration) → IsNext s r.line → IsTrue (is_value r.object && is_value r.representative) → IsTrue (is_of_kind is_guardian (object_at s.graph r.guardian)) → named_by_registration r ⊆ births s → IsWellFormed (with_registration s r)
-  registered r next fits guard there =
+  pub registered : (r : Registration) → IsNext s r.line → r.line ≤ last → IsTrue (is_value r.object && is_value r.representative) → IsTrue (is_of_kind is_guardian (object_at s.graph r.guardian)) → named_by_registration r ⊆ births s → IsWellFormedTo last (with_registration s r)
+  registered r next within fits guard there =
       let names = names_parts s (births s) well.in_graph in
       record {
         ordered = well.ordered;
@@ -249,7 +249,7 @@ module _ (s : State) (well : IsWellFormed s) where
           | inr other ↦ let no_more = ap one_if other in omega (arith, now, before, no_more)
         ];
         in_range = λ n h. let now = one_more n in elim (cases_Bool (r.line == n)) [
-          | inl same ↦ subst (λ m. (1 ≤ m) × (m ≤ greatest_line)) (eqb-true r.line n same) (next.counted, next.bounded)
+          | inl same ↦ subst (λ m. (1 ≤ m) × (m ≤ last)) (eqb-true r.line n same) (next.counted, within)
           | inr other ↦ let no_more = ap one_if other in well.in_range n (omega (arith, now, no_more, h))
         ];
         lines_ordered = subst (λ ns. IsTrue (is_ascending ns)) (sym (map-append line_of s.registrations (r ∷ []))) (ascending_last (registration_lines s) r.line well.lines_ordered (each_below (registration_lines s) lines_of_state));
@@ -291,7 +291,7 @@ module _ (s : State) (well : IsWellFormed s) where
 
   -- ---- locks and notes
 
-  locks_well_formed : (locks : List (ℕ × ℕ)) → IsTrue (is_sorted nat_cmp locks) → AllByRecursion (λ e. 1 ≤ e.1) locks → AllByRecursion (λ e. IsTrue (has (births s) e.0)) locks → IsWellFormed (record s { locks = locks })
+  locks_well_formed : (locks : List (ℕ × ℕ)) → IsTrue (is_sorted nat_cmp locks) → AllByRecursion (λ e. 1 ≤ e.1) locks → AllByRecursion (λ e. IsTrue (has (births s) e.0)) locks → IsWellFormedTo last (record s { locks = locks })
   locks_well_formed locks ordered counts there =
       let names = names_parts s (births s) well.in_graph in
       record {
@@ -319,7 +319,7 @@ module _ (s : State) (well : IsWellFormed s) where
         version = well.version;
       }
 
-  pub lock_counted : (x n : ℕ) → (x ∷ []) ⊆ births s → IsWellFormed (with_lock_count s x n)
+  pub lock_counted : (x n : ℕ) → (x ∷ []) ⊆ births s → IsWellFormedTo last (with_lock_count s x n)
   lock_counted x zero there =
       locks_well_formed (where_key nat_cmp (λ y. not (x == y)) s.locks)
       (is_true _ (is_sorted-where_key nat_cmp (λ y. not (x == y)) s.locks (passes _ well.locks_ordered)))
@@ -331,7 +331,7 @@ module _ (s : State) (well : IsWellFormed s) where
       (each_put_any x (suc n) (λ e. 1 ≤ e.1) (omega arith) s.locks (recursion_from_All _ s.locks well.locks))
       (each_put_any x (suc n) (λ e. IsTrue (has (births s) e.0)) (there x (ap (λ b. b || false) (eq-eqb x x refl))) s.locks (each_key_in (births s) s.locks (names_parts s (births s) well.in_graph).locks))
 
-  pub noted_well_formed : (k x : ℕ) → (x ∷ []) ⊆ births s → IsWellFormed (record s { notes = set s.notes k (set_to x) })
+  pub noted_well_formed : (k x : ℕ) → (x ∷ []) ⊆ births s → IsWellFormedTo last (record s { notes = set s.notes k (set_to x) })
   noted_well_formed k x there =
       let names = names_parts s (births s) well.in_graph in
       record {

@@ -11,7 +11,7 @@ use Rattle.trace_types.specs.Values.{Value, bwp, is_value, Object, object_at, is
 use Rattle.trace_types.specs.States.{State, Registration}
 use Rattle.trace_types.specs.Rules.{has}
 use Rattle.trace_types.specs.Kept.{kept, is_of_kind, is_given, is_outside}
-use Rattle.trace_types.specs.WellFormed.{IsObject, IsWellFormed, has_its_fields, is_generation}
+use Rattle.trace_types.specs.WellFormed.{IsObject, IsWellFormedTo, has_its_fields, is_generation}
 use Rattle.trace_types.proofs.Ranges.{fields_left_fit, all_both, ascending_filter}
 use Rattle.trace_types.specs.Collections.{Arguments, are_allowed, target, collect, graph_left, object_left, fields_left, queued_for, note_left}
 use Rattle.trace_types.proofs.Least.{each_weaker}
@@ -104,8 +104,8 @@ queued_values s cg x (r ∷ rs) h =
       | false ↦ queued_values s cg x rs h.1
     ]
 
-object_stays : (s : State) (a : Arguments) → IsWellFormed s → IsTrue (are_allowed s.version s.oldest a) → (x : ℕ) (o : Object) → object_at s.graph x ≡ Some o → IsObject s.version s.oldest o → IsObject s.version s.oldest (object_left s a x o)
-object_stays s a well allowed x o found is = record {
+object_stays : (last : ℕ) (s : State) (a : Arguments) → IsWellFormedTo last s → IsTrue (are_allowed s.version s.oldest a) → (x : ℕ) (o : Object) → object_at s.graph x ≡ Some o → IsObject s.version s.oldest o → IsObject s.version s.oldest (object_left s a x o)
+object_stays last s a well allowed x o found is = record {
   fields = fields_left_shape (kept s a.cg) o.kind o.fields is.fields;
   queue = elim (cases_Bool (is_guardian o.kind)) [
     | inl guard ↦ or_left (is_guardian o.kind) (length (o.queue ++ queued_for s a.cg x) == 0) guard
@@ -130,16 +130,16 @@ guardian_stays s a r guard there =
     same_kind None h = h
     same_kind (Some o) h = h
 
-pub collect_well_formed : (s : State) (a : Arguments) → IsTrue (are_allowed s.version s.oldest a) → IsWellFormed s → IsWellFormed (collect s a)
+pub collect_well_formed : (last : ℕ) (s : State) (a : Arguments) → IsTrue (are_allowed s.version s.oldest a) → IsWellFormedTo last s → IsWellFormedTo last (collect s a)
 unfolding collect
-collect_well_formed s a allowed well = record {
+collect_well_formed last s a allowed well = record {
   ordered = is_true _ (graph_left_sorted s a (passes _ well.ordered));
   objects = All-from_recursion _ _ (each_map (λ e. IsObject s.version s.oldest e.1) (λ e. (e.0, object_left s a e.0 e.1)) (filter (λ e. has (kept s a.cg) e.0) s.graph)
       (each_filtered (λ e. IsObject s.version s.oldest (object_left s a e.0 e.1)) (λ e. has (kept s a.cg) e.0) s.graph
       (each_pair (λ e. IsObject s.version s.oldest e.1 → IsObject s.version s.oldest (object_left s a e.0 e.1)) (λ e. IsObject s.version s.oldest e.1) _ (λ e stays is _. stays is) s.graph
-      (found_each (λ x o. IsObject s.version s.oldest o → IsObject s.version s.oldest (object_left s a x o)) s.graph well.ordered (object_stays s a well allowed))
+      (found_each (λ x o. IsObject s.version s.oldest o → IsObject s.version s.oldest (object_left s a x o)) s.graph well.ordered (object_stays last s a well allowed))
       (recursion_from_All (λ e. IsObject s.version s.oldest e.1) s.graph well.objects))));
-  in_graph = collect_in_graph s a well;
+  in_graph = collect_in_graph last s a well;
   guardians = All-from_recursion _ _ (each_filtered (λ r. IsTrue (is_of_kind is_guardian (object_at (graph_left s a) r.guardian))) (λ r. has (kept s a.cg) r.guardian && not (is_given s a.cg r)) s.registrations
       (each_weaker _ _ (λ r guard passes_both. guardian_stays s a r guard (and_parts (has (kept s a.cg) r.guardian) (not (is_given s a.cg r)) passes_both).0) s.registrations (recursion_from_All _ s.registrations well.guardians)));
   differ = λ n. omega (arith, fewer_numbers s a well.ordered n, well.differ n);

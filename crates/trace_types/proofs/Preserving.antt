@@ -12,7 +12,7 @@ use Rattle.trace_types.specs.States.{State, Registration, Note, empty, gone, set
 use Rattle.trace_types.specs.Rules.{has, ◌⊆◌, meets}
 use Rattle.trace_types.specs.Kept.{rules_to, older, is_outside, is_dead, is_unordered, is_ordered, is_of_kind, is_unordered_kind, is_ordered_kind, is_ready, is_given, kept}
 use Rattle.trace_types.specs.Closed.{IsIn, IsClosed}
-use Rattle.trace_types.specs.WellFormed.{births, named, named_by_object, named_by_registration, noted, has_its_fields, IsObject, IsWellFormed}
+use Rattle.trace_types.specs.WellFormed.{births, named, named_by_object, named_by_registration, noted, has_its_fields, IsObject, IsWellFormedTo}
 use Rattle.trace_types.specs.Collections.{Arguments, collect, object_left, fields_left, unless_outside, queued_for, note_left, is_fixed, is_note_gone}
 use Rattle.trace_types.proofs.Least.{each_weaker}
 use Rattle.trace_types.proofs.Meeting.{each_in_flat_map, met_use, in_from, in_use, met_closed, each_found, found_each}
@@ -213,9 +213,9 @@ each_map P g [] h = tt
 each_map P g (x ∷ xs) h = (h.0, each_map P g xs h.1)
 
 -- a collection names only objects of the graph that it leaves
-pub collect_in_graph : (s : State) (a : Arguments) → IsWellFormed s → named (collect s a) ⊆ births (collect s a)
+pub collect_in_graph : (last : ℕ) (s : State) (a : Arguments) → IsWellFormedTo last s → named (collect s a) ⊆ births (collect s a)
 unfolding collect
-collect_in_graph s a well = λ x there. left_births s a s.graph x (names_whole (collect s a) set names x there) (kept_born s a.cg well.in_graph x (names_whole (collect s a) set names x there))
+collect_in_graph last s a well = λ x there. left_births s a s.graph x (names_whole (collect s a) set names x there) (kept_born s a.cg well.in_graph x (names_whole (collect s a) set names x there))
   where
     set : List ℕ
     set = kept s a.cg

@@ -21,7 +21,7 @@ use Rattle.trace_types.specs.Collections.{Arguments, are_allowed, plain_argument
 use Rattle.trace_types.specs.Kept.{is_of_kind}
 use Rattle.trace_types.specs.Steps.{step, found_object, or_itself, collected, checked, table_of, whole_key, put_at, entry_in, object_of, found_at, emptied}
 use Rattle.trace_types.specs.Tables.{entry_kind, is_table, is_entry, has_key, holds_entry, where_in, free_in}
-use Rattle.trace_types.specs.WellFormed.{IsWellFormed, IsNext, IsObject, operand_fits, representative_fits, operands_fit, births, is_generation, has_its_fields, fields_fit}
+use Rattle.trace_types.specs.WellFormed.{IsWellFormedTo, IsNext, IsObject, operand_fits, representative_fits, operands_fit, births, is_generation, has_its_fields, fields_fit}
 use Rattle.trace_types.proofs.Named.{append_sub, objects_left, objects_right, objects_both}
 use Rattle.trace_types.proofs.Collecting.{collect_well_formed}
 use Rattle.trace_types.proofs.Stepping.{register_well_formed, births_below, new_birth, births_put}
@@ -69,8 +69,8 @@ plain_allowed version oldest n =
     ended : Bool
     ended = cg == oldest && top == oldest && top == oldest
 
-module _ (s : State) (well : IsWellFormed s) where
-  threaded : (t : ℕ) → t ≤ 63 → IsWellFormed (record s { thread = t })
+module _ (last : ℕ) (s : State) (well : IsWellFormedTo last s) where
+  threaded : (t : ℕ) → t ≤ 63 → IsWellFormedTo last (record s { thread = t })
   threaded t h = record {
     ordered = well.ordered;
     objects = well.objects;
@@ -90,7 +90,7 @@ module _ (s : State) (well : IsWellFormed s) where
     version = well.version;
   }
 
-  counted : (n : ℕ) → IsWellFormed (record s { collects = n })
+  counted : (n : ℕ) → IsWellFormedTo last (record s { collects = n })
   counted n = record {
     ordered = well.ordered;
     objects = well.objects;
@@ -110,34 +110,34 @@ module _ (s : State) (well : IsWellFormed s) where
     version = well.version;
   }
 
-  choice : (b : Bool) (yes_answer no_answer : Answer) → IsWellAnswered yes_answer → IsWellAnswered no_answer → IsWellAnswered (cond b yes_answer no_answer)
+  choice : (b : Bool) (yes_answer no_answer : Answer) → IsWellAnswered last yes_answer → IsWellAnswered last no_answer → IsWellAnswered last (cond b yes_answer no_answer)
   choice true one other h k = h
   choice false one other h k = k
 
-  chosen : (b : Bool) (yes_answer no_answer : Answer) → (b ≡ true → IsWellAnswered yes_answer) → (b ≡ false → IsWellAnswered no_answer) → IsWellAnswered (cond b yes_answer no_answer)
+  chosen : (b : Bool) (yes_answer no_answer : Answer) → (b ≡ true → IsWellAnswered last yes_answer) → (b ≡ false → IsWellAnswered last no_answer) → IsWellAnswered last (cond b yes_answer no_answer)
   chosen true one other h k = h refl
   chosen false one other h k = k refl
 
   table_operands : (a b : Operand) (x y z : Bool) → IsTrue (operand_fits a && operand_fits b && x && y && z) → IsTrue (operand_fits a && operand_fits b)
   table_operands a b x y z h = (and_parts (operand_fits a && operand_fits b) x (and_parts (operand_fits a && operand_fits b && x) y (and_parts (operand_fits a && operand_fits b && x && y) z h).0).0).0
 
-  collection_kept : (args : CollectArgs) → IsWellAnswered (collected s args)
-  collection_kept Plain = collect_well_formed (record s { collects = s.collects + 1 }) (plain_arguments s.oldest (s.collects + 1)) (plain_allowed s.version s.oldest (s.collects + 1)) (counted (s.collects + 1))
+  collection_kept : (args : CollectArgs) → IsWellAnswered last (collected s args)
+  collection_kept Plain = collect_well_formed last (record s { collects = s.collects + 1 }) (plain_arguments s.oldest (s.collects + 1)) (plain_allowed s.version s.oldest (s.collects + 1)) (counted (s.collects + 1))
   collection_kept (Explicit cg least greatest) =
       let a : Arguments = record { cg = cg; least = least; greatest = greatest } in
-      elim (are_allowed s.version s.oldest a) as (λ b. are_allowed s.version s.oldest a ≡ b → IsWellAnswered (cond b (silently (collect s a)) (Err BadGeneration))) [
-        | true ↦ λ e. collect_well_formed s a e well
+      elim (are_allowed s.version s.oldest a) as (λ b. are_allowed s.version s.oldest a ≡ b → IsWellAnswered last (cond b (silently (collect s a)) (Err BadGeneration))) [
+        | true ↦ λ e. collect_well_formed last s a e well
         | false ↦ λ e. tt
       ] refl
 
-  check_kept : (k : ℕ) (v : Value) (note : states.Note) → IsWellAnswered (checked s k v note)
+  check_kept : (k : ℕ) (v : Value) (note : states.Note) → IsWellAnswered last (checked s k v note)
   check_kept k v states.empty = tt
   check_kept k v states.gone = well
   check_kept k v (states.set_to birth) = well
 
   representative_there : (v : Value) (r : Option Operand) → objects_in (v ∷ []) ⊆ births s → objects_in (or_itself s v r ∷ []) ⊆ births s
   representative_there v None h = h
-  representative_there v (Some r) h = operand_there s well r
+  representative_there v (Some r) h = operand_there last s well r
 
   shaped : (n m : ℕ) → n ≡ m → IsTrue (nat_le m 4000000) → IsTrue (nat_le n 4000000)
   shaped n m e h = ap (λ k. nat_le k 4000000) e ∙ h
@@ -151,14 +151,14 @@ module _ (s : State) (well : IsWellFormed s) where
   two_fit : (a b : Operand) → IsTrue (operand_fits a && operand_fits b) → IsTrue (list_all is_value (operand_value s a ∷ operand_value s b ∷ []))
   two_fit a b h =
       let parts = and_parts (operand_fits a) (operand_fits b) h in
-      and_from (is_value (operand_value s a)) (is_value (operand_value s b) && true) (operand_fits_value s well a parts.0) (and_from (is_value (operand_value s b)) true (operand_fits_value s well b parts.1) refl)
+      and_from (is_value (operand_value s a)) (is_value (operand_value s b) && true) (operand_fits_value last s well a parts.0) (and_from (is_value (operand_value s b)) true (operand_fits_value last s well b parts.1) refl)
 
   one_fits : (v : Value) → IsTrue (is_value v) → IsTrue (list_all is_value (v ∷ []))
   one_fits v h = and_from (is_value v) true h refl
 
   representative_value : (v : Value) (r : Option Operand) → IsTrue (is_value v) → IsTrue (representative_fits r) → IsTrue (is_value (or_itself s v r))
   representative_value v None h k = h
-  representative_value v (Some r) h k = operand_fits_value s well r k
+  representative_value v (Some r) h k = operand_fits_value last s well r k
 
   -- what is set into a field fits there
   set_fits : (kind : Kind) (v : Value) → IsTrue (is_value v) → (has_bytes kind && not (is_byte v)) ≡ false → IsTrue (cond (has_bytes kind) (is_byte v) (is_value v))
@@ -169,7 +169,7 @@ module _ (s : State) (well : IsWellFormed s) where
       by_bytes false e = h
 
   -- version 2 allows all that version 1 does
-  two_versioned : IsWellFormed (record s { version = 2 })
+  two_versioned : IsWellFormedTo last (record s { version = 2 })
   two_versioned = record {
     ordered = well.ordered;
     objects = All-from_recursion _ s.graph (each_weaker (λ e. IsObject s.version s.oldest e.1) (λ e. IsObject 2 s.oldest e.1) (λ e is. record {
@@ -214,14 +214,14 @@ module _ (s : State) (well : IsWellFormed s) where
   entry_fits Mode.Weak a b h = h
   entry_fits Mode.Eph a b h = h
 
-  pub on_table : (v : Value) (act : ℕ × Object → Answer) → ((x : ℕ) (o : Object) → object_at s.graph x ≡ Some o → IsTrue (is_table o.kind) → IsWellAnswered (act (x, o))) → IsWellAnswered (table_of s v >>= act)
+  pub on_table : (v : Value) (act : ℕ × Object → Answer) → ((x : ℕ) (o : Object) → object_at s.graph x ≡ Some o → IsTrue (is_table o.kind) → IsWellAnswered last (act (x, o))) → IsWellAnswered last (table_of s v >>= act)
   on_table (object x) act h = by_found (object_at s.graph x) refl
     where
-      by_kind : (o : Object) → object_at s.graph x ≡ Some o → (b : Bool) → is_table o.kind ≡ b → IsWellAnswered (cond b (Ok (x, o)) (Err WrongKind) >>= act)
+      by_kind : (o : Object) → object_at s.graph x ≡ Some o → (b : Bool) → is_table o.kind ≡ b → IsWellAnswered last (cond b (Ok (x, o)) (Err WrongKind) >>= act)
       by_kind o found true is = h x o found is
       by_kind o found false is = tt
 
-      by_found : (o : Option Object) → object_at s.graph x ≡ o → IsWellAnswered ((found_object x o >>= λ g. cond (is_table g.1.kind) (Ok g) (Err WrongKind)) >>= act)
+      by_found : (o : Option Object) → object_at s.graph x ≡ o → IsWellAnswered last ((found_object x o >>= λ g. cond (is_table g.1.kind) (Ok g) (Err WrongKind)) >>= act)
       by_found None found = tt
       by_found (Some o) found = by_kind o found (is_table o.kind) refl
   on_table (fixnum n) act h = tt
@@ -230,21 +230,21 @@ module _ (s : State) (well : IsWellFormed s) where
   on_table false_value act h = tt
   on_table bwp act h = tt
 
-  on_key : (key : Value) (act : Value → Answer) → IsWellAnswered (act key) → IsWellAnswered (whole_key key >>= act)
-  on_key key act h = elim (same_value key bwp) as (λ b. IsWellAnswered (cond b (Err WrongKind) (Ok key) >>= act)) [ true ↦ tt | false ↦ h ]
+  on_key : (key : Value) (act : Value → Answer) → IsWellAnswered last (act key) → IsWellAnswered last (whole_key key >>= act)
+  on_key key act h = elim (same_value key bwp) as (λ b. IsWellAnswered last (cond b (Err WrongKind) (Ok key) >>= act)) [ true ↦ tt | false ↦ h ]
 
   value_fits : (kind : Kind) (v : Value) → has_bytes kind ≡ false → IsTrue (is_value v) → IsTrue (cond (has_bytes kind) (is_byte v) (is_value v))
   value_fits kind v e h = subst (λ b. IsTrue (cond b (is_byte v) (is_value v))) (sym e) h
 
   -- the slot of a key has an entry
   on_entry : (table : Object) (key : Value) (slot : ℕ) (act : ℕ × Object → Answer) → where_in s.graph table key ≡ Some slot
-      → ((x : ℕ) (o : Object) → object_at s.graph x ≡ Some o → IsTrue (is_entry o.kind) → IsWellAnswered (act (x, o))) → IsWellAnswered (entry_in s table slot >>= act)
+      → ((x : ℕ) (o : Object) → object_at s.graph x ≡ Some o → IsTrue (is_entry o.kind) → IsWellAnswered last (act (x, o))) → IsWellAnswered last (entry_in s table slot >>= act)
   on_entry table key slot act there h = by_value (field_at table slot) (position-Some (holds_entry s.graph key) table.fields slot nil there).1
     where
-      by_value : (v : Value) → holds_entry s.graph key v ≡ true → IsWellAnswered (object_of s v >>= act)
+      by_value : (v : Value) → holds_entry s.graph key v ≡ true → IsWellAnswered last (object_of s v >>= act)
       by_value (object x) e = by_found (object_at s.graph x) refl e
         where
-          by_found : (o : Option Object) → object_at s.graph x ≡ o → (not (same_value key bwp) && has_key key o) ≡ true → IsWellAnswered (found_object x o >>= act)
+          by_found : (o : Option Object) → object_at s.graph x ≡ o → (not (same_value key bwp) && has_key key o) ≡ true → IsWellAnswered last (found_object x o >>= act)
           by_found None found e = tt
           by_found (Some o) found e = h x o found (and_parts (is_entry o.kind) (same_value (key_of o) key) (and_parts (not (same_value key bwp)) (has_key key (Some o)) e).1).0
       by_value (fixnum n) e = tt
@@ -254,27 +254,27 @@ module _ (s : State) (well : IsWellFormed s) where
       by_value bwp e = tt
 
   -- what is found for a key is a value of the state
-  on_found : (table : Object) (slot : Option ℕ) (act : Value → Answer) → ((v : Value) → IsTrue (is_value v) → objects_in (v ∷ []) ⊆ births s → IsWellAnswered (act v)) → IsWellAnswered (found_at s table slot >>= act)
+  on_found : (table : Object) (slot : Option ℕ) (act : Value → Answer) → ((v : Value) → IsTrue (is_value v) → objects_in (v ∷ []) ⊆ births s → IsWellAnswered last (act v)) → IsWellAnswered last (found_at s table slot >>= act)
   on_found table None act h = h false_value refl (no_objects (births s))
   on_found table (Some slot) act h = by_value (field_at table slot)
     where
-      by_value : (v : Value) → IsWellAnswered ((object_of s v >>= λ e. Ok (value_of e.1)) >>= act)
+      by_value : (v : Value) → IsWellAnswered last ((object_of s v >>= λ e. Ok (value_of e.1)) >>= act)
       by_value (object x) = by_found (object_at s.graph x) refl
         where
-          by_found : (o : Option Object) → object_at s.graph x ≡ o → IsWellAnswered ((found_object x o >>= λ e. Ok (value_of e.1)) >>= act)
+          by_found : (o : Option Object) → object_at s.graph x ≡ o → IsWellAnswered last ((found_object x o >>= λ e. Ok (value_of e.1)) >>= act)
           by_found None found = tt
           by_found (Some o) found =
-              h (value_of o) (all_slot is_value o.fields 1 nil (fields_values o.kind o.fields (is_object s well x o found).fitting) refl)
-              (slot_there o.fields 1 (births s) (objects_left o.fields _ (births s) (named_there s well x o found)))
+              h (value_of o) (all_slot is_value o.fields 1 nil (fields_values o.kind o.fields (is_object last s well x o found).fitting) refl)
+              (slot_there o.fields 1 (births s) (objects_left o.fields _ (births s) (named_there last s well x o found)))
       by_value (fixnum n) = tt
       by_value nil = tt
       by_value true_value = tt
       by_value false_value = tt
       by_value bwp = tt
 
-  emptied_kept : (x : ℕ) (o : Object) (slot : Option ℕ) → object_at s.graph x ≡ Some o → IsTrue (is_table o.kind) → IsWellFormed (emptied s (x, o) slot)
+  emptied_kept : (x : ℕ) (o : Object) (slot : Option ℕ) → object_at s.graph x ≡ Some o → IsTrue (is_table o.kind) → IsWellFormedTo last (emptied s (x, o) slot)
   emptied_kept x o None found is = well
-  emptied_kept x o (Some slot) found is = field_set_well_formed s well x o slot nil found (value_fits o.kind nil (table_has_values o.kind is) refl) (no_objects (births s))
+  emptied_kept x o (Some slot) found is = field_set_well_formed last s well x o slot nil found (value_fits o.kind nil (table_has_values o.kind is) refl) (no_objects (births s))
 
   -- an object that was there is there beside a new one
   still_found : (line : ℕ) (new : Object) (x : ℕ) (o : Object) → IsNext s line → object_at s.graph x ≡ Some o → object_at (put nat_cmp line new s.graph) x ≡ Some o
@@ -282,90 +282,90 @@ module _ (s : State) (well : IsWellFormed s) where
       let below = ltb-true x line (each_found (λ y q. IsTrue (nat_lt y line)) s.graph (births_below s line next) x o found) in
       object_at-put s.graph line new x ∙ cond-false (x == line) (Some new) (object_at s.graph x) (ne_eqb x line (λ same. omega arith)) ∙ found
 
-  put_kept : (line d x : ℕ) (table : Object) (mode : Mode) (key v : Value) (free : Option ℕ) → IsNext s line → object_at s.graph x ≡ Some table → IsTrue (is_table table.kind)
+  put_kept : (line d x : ℕ) (table : Object) (mode : Mode) (key v : Value) (free : Option ℕ) → IsNext s line → line ≤ last → object_at s.graph x ≡ Some table → IsTrue (is_table table.kind)
       → IsTrue (list_all is_value (key ∷ v ∷ [])) → objects_in (key ∷ v ∷ []) ⊆ births s
-      → (w : Option ℕ) → where_in s.graph table key ≡ w → IsWellAnswered (put_at s line d (x, table) (entry_kind mode) key v w free)
-  put_kept line d x table mode key v free next found is fits there (Some slot) at =
+      → (w : Option ℕ) → where_in s.graph table key ≡ w → IsWellAnswered last (put_at s line d (x, table) (entry_kind mode) key v w free)
+  put_kept line d x table mode key v free next within found is fits there (Some slot) at =
       on_entry table key slot _ at (λ y o found_entry entry.
-      register_well_formed (with_field s y o 1 v) d (object y)
-      (field_set_well_formed s well y o 1 v found_entry (value_fits o.kind v (entry_has_values o.kind entry) (and_parts (is_value v) true (and_parts (is_value key) (is_value v && true) fits).1).0) (objects_right (key ∷ []) (v ∷ []) (births s) there))
+      register_well_formed last (with_field s y o 1 v) d (object y)
+      (field_set_well_formed last s well y o 1 v found_entry (value_fits o.kind v (entry_has_values o.kind entry) (and_parts (is_value v) true (and_parts (is_value key) (is_value v && true) fits).1).0) (objects_right (key ∷ []) (v ∷ []) (births s) there))
       refl
-      (subst (λ xs. (y ∷ []) ⊆ xs) (sym (births_put y (record o { fields = set o.fields 1 v }) s.graph o well.ordered found_entry)) (found_born s well y o found_entry)))
-  put_kept line d x table mode key v (Some slot) next found is fits there None at =
+      (subst (λ xs. (y ∷ []) ⊆ xs) (sym (births_put y (record o { fields = set o.fields 1 v }) s.graph o well.ordered found_entry)) (found_born last s well y o found_entry)))
+  put_kept line d x table mode key v (Some slot) next within found is fits there None at =
       let shape = entry_shape mode key v in
       let fit = entry_fits mode key v fits in
-      field_set_well_formed (with_new s line d (entry_kind mode) (key ∷ v ∷ []))
-      (made_well_formed s well line d (entry_kind mode) (key ∷ v ∷ []) next shape fit there)
+      field_set_well_formed last (with_new s line d (entry_kind mode) (key ∷ v ∷ []))
+      (made_well_formed last s well line d (entry_kind mode) (key ∷ v ∷ []) next within shape fit there)
       x table slot (object line)
       (still_found line _ x table next found)
       (value_fits table.kind (object line) (table_has_values table.kind is) refl)
-      (new_birth s line (entry_kind mode) (key ∷ v ∷ []) well next shape fit there)
-  put_kept line d x table mode key v None next found is fits there None at = tt
+      (new_birth last s line (entry_kind mode) (key ∷ v ∷ []) well next within shape fit there)
+  put_kept line d x table mode key v None next within found is fits there None at = tt
 
   -- ---- the table of commands
 
   -- the new state of a command is well formed
-  pub answered : (line : ℕ) (c : Command) → IsNext s line → IsTrue (operands_fit c) → IsWellAnswered (step s line c)
+  pub answered : (line : ℕ) (c : Command) → IsNext s line → line ≤ last → IsTrue (operands_fit c) → IsWellAnswered last (step s line c)
   unfolding step
-  answered line (Thread t) next fits = threaded t (leb-true t 63 fits)
-  answered line (Cons d car cdr) next fits = made_well_formed s well line d Kind.Pair _ next refl (two_fit car cdr fits) (operands_there s well car cdr)
-  answered line (Weak d car cdr) next fits = made_well_formed s well line d Kind.Weak _ next refl (two_fit car cdr fits) (operands_there s well car cdr)
-  answered line (Eph d key value) next fits = made_well_formed s well line d Kind.Eph _ next refl (two_fit key value fits) (operands_there s well key value)
-  answered line (MakeBox d value) next fits = made_well_formed s well line d Kind.Boxed _ next refl (one_fits (operand_value s value) (operand_fits_value s well value fits)) (operand_there s well value)
-  answered line (Vector d n value) next fits = short s well n _ (λ h. made_well_formed s well line d Kind.Vector _ next (shaped _ n (length-replicate n _) h) (shaped_fit n _ (operand_fits_value s well value fits)) (copies_there s well _ n (operand_there s well value)))
-  answered line (Bytes d n byte) next fits = short s well n _ (λ h. made_well_formed s well line d Kind.Bytes _ next (shaped _ n (length-replicate n _) h) (all_copies is_byte n _ (byte_fits byte fits)) (copies_there s well _ n (no_objects (births s))))
-  answered line (ImmVector d n value) next fits = short s well n _ (λ h. made_well_formed s well line d Kind.ImmVector _ next (shaped _ n (length-replicate n _) h) (shaped_fit n _ (operand_fits_value s well value fits)) (copies_there s well _ n (operand_there s well value)))
-  answered line (ImmBytes d n byte) next fits = short s well n _ (λ h. made_well_formed s well line d Kind.ImmBytes _ next (shaped _ n (length-replicate n _) h) (all_copies is_byte n _ (byte_fits byte fits)) (copies_there s well _ n (no_objects (births s))))
-  answered line (Guard d) next fits = made_well_formed s well line d Kind.Guard [] next refl refl (no_objects (births s))
-  answered line (OrderedGuard d) next fits = made_well_formed s well line d Kind.OrderedGuard [] next refl refl (no_objects (births s))
-  answered line (Reg guardian o representative) next fits =
+  answered line (Thread t) next within fits = threaded t (leb-true t 63 fits)
+  answered line (Cons d car cdr) next within fits = made_well_formed last s well line d Kind.Pair _ next within refl (two_fit car cdr fits) (operands_there last s well car cdr)
+  answered line (Weak d car cdr) next within fits = made_well_formed last s well line d Kind.Weak _ next within refl (two_fit car cdr fits) (operands_there last s well car cdr)
+  answered line (Eph d key value) next within fits = made_well_formed last s well line d Kind.Eph _ next within refl (two_fit key value fits) (operands_there last s well key value)
+  answered line (MakeBox d value) next within fits = made_well_formed last s well line d Kind.Boxed _ next within refl (one_fits (operand_value s value) (operand_fits_value last s well value fits)) (operand_there last s well value)
+  answered line (Vector d n value) next within fits = short last s well n _ (λ h. made_well_formed last s well line d Kind.Vector _ next within (shaped _ n (length-replicate n _) h) (shaped_fit n _ (operand_fits_value last s well value fits)) (copies_there last s well _ n (operand_there last s well value)))
+  answered line (Bytes d n byte) next within fits = short last s well n _ (λ h. made_well_formed last s well line d Kind.Bytes _ next within (shaped _ n (length-replicate n _) h) (all_copies is_byte n _ (byte_fits byte fits)) (copies_there last s well _ n (no_objects (births s))))
+  answered line (ImmVector d n value) next within fits = short last s well n _ (λ h. made_well_formed last s well line d Kind.ImmVector _ next within (shaped _ n (length-replicate n _) h) (shaped_fit n _ (operand_fits_value last s well value fits)) (copies_there last s well _ n (operand_there last s well value)))
+  answered line (ImmBytes d n byte) next within fits = short last s well n _ (λ h. made_well_formed last s well line d Kind.ImmBytes _ next within (shaped _ n (length-replicate n _) h) (all_copies is_byte n _ (byte_fits byte fits)) (copies_there last s well _ n (no_objects (births s))))
+  answered line (Guard d) next within fits = made_well_formed last s well line d Kind.Guard [] next within refl refl (no_objects (births s))
+  answered line (OrderedGuard d) next within fits = made_well_formed last s well line d Kind.OrderedGuard [] next within refl refl (no_objects (births s))
+  answered line (Reg guardian o representative) next within fits =
       let parts = and_parts (operand_fits o) (representative_fits representative) fits in
-      let value = operand_fits_value s well o parts.0 in
-      on_guardian s well (register_value s guardian) _ (λ x g found guard.
-      registered s well (record { line = line; guardian = x; object = operand_value s o; representative = or_itself s (operand_value s o) representative }) next
+      let value = operand_fits_value last s well o parts.0 in
+      on_guardian last s well (register_value s guardian) _ (λ x g found guard.
+      registered last s well (record { line = line; guardian = x; object = operand_value s o; representative = or_itself s (operand_value s o) representative }) next within
       (and_from (is_value (operand_value s o)) (is_value (or_itself s (operand_value s o) representative)) value (representative_value (operand_value s o) representative value parts.1))
       (ap (is_of_kind is_guardian) found ∙ guard)
-      (append_sub (x ∷ []) _ (births s) (found_born s well x g found)
-      (objects_both (operand_value s o ∷ []) (or_itself s (operand_value s o) representative ∷ []) (births s) (operand_there s well o) (representative_there (operand_value s o) representative (operand_there s well o)))))
-  answered line (Take d guardian) next fits = on_guardian s well (register_value s guardian) _ (λ x g found guard. taken s well d x g found guard g.queue refl)
-  answered line (Get d from index) next fits =
-      on_fielded s well (register_value s from) _ (λ x o found.
-      within_length s well o index _ (register_well_formed s d _ well
-      (all_slot is_value o.fields index nil (fields_values o.kind o.fields (is_object s well x o found).fitting) refl)
-      (slot_there o.fields index (births s) (objects_left o.fields _ (births s) (named_there s well x o found)))))
-  answered line (Set into index value) next fits =
-      on_fielded s well (register_value s into) _ (λ x o found.
+      (append_sub (x ∷ []) _ (births s) (found_born last s well x g found)
+      (objects_both (operand_value s o ∷ []) (or_itself s (operand_value s o) representative ∷ []) (births s) (operand_there last s well o) (representative_there (operand_value s o) representative (operand_there last s well o)))))
+  answered line (Take d guardian) next within fits = on_guardian last s well (register_value s guardian) _ (λ x g found guard. taken last s well d x g found guard g.queue refl)
+  answered line (Get d from index) next within fits =
+      on_fielded last s well (register_value s from) _ (λ x o found.
+      within_length last s well o index _ (register_well_formed last s d _ well
+      (all_slot is_value o.fields index nil (fields_values o.kind o.fields (is_object last s well x o found).fitting) refl)
+      (slot_there o.fields index (births s) (objects_left o.fields _ (births s) (named_there last s well x o found)))))
+  answered line (Set into index value) next within fits =
+      on_fielded last s well (register_value s into) _ (λ x o found.
       chosen (has_bytes o.kind && not (is_byte (operand_value s value))) _ _ (λ _. tt) (λ e.
-      within_length s well o index _ (field_set_well_formed s well x o index (operand_value s value) found (set_fits o.kind (operand_value s value) (operand_fits_value s well value fits) e) (operand_there s well value))))
-  answered line (Mov d value) next fits = register_well_formed s d (operand_value s value) well (operand_fits_value s well value fits) (operand_there s well value)
-  answered line (Lock value) next fits = on_object s well (operand_value s value) _ (λ x o found. lock_counted s well x (lock_count s x + 1) (found_born s well x o found))
-  answered line (Unlock value) next fits =
-      on_object s well (operand_value s value) _ (λ x o found. choice (lock_count s x == 0) _ _ tt (lock_counted s well x (lock_count s x - 1) (found_born s well x o found)))
-  answered line (Note k r) next fits =
-      on_object s well (register_value s r) _ (λ x o found. choice (is_immobile o.kind || nat_lt 0 (lock_count s x)) _ _ (noted_well_formed s well k x (found_born s well x o found)) tt)
-  answered line (Check k r) next fits = check_kept k (register_value s r) (slice_index_or s.notes k states.empty)
-  answered line (Collect args) next fits = collection_kept args
-  answered line (Print value) next fits = well
-  answered line Census next fits = well
-  answered line (Gen value) next fits = well
-  answered line Version next fits = choice (line == 1) _ _ two_versioned tt
-  answered line (TablePut d table mode key value) next fits =
+      within_length last s well o index _ (field_set_well_formed last s well x o index (operand_value s value) found (set_fits o.kind (operand_value s value) (operand_fits_value last s well value fits) e) (operand_there last s well value))))
+  answered line (Mov d value) next within fits = register_well_formed last s d (operand_value s value) well (operand_fits_value last s well value fits) (operand_there last s well value)
+  answered line (Lock value) next within fits = on_object last s well (operand_value s value) _ (λ x o found. lock_counted last s well x (lock_count s x + 1) (found_born last s well x o found))
+  answered line (Unlock value) next within fits =
+      on_object last s well (operand_value s value) _ (λ x o found. choice (lock_count s x == 0) _ _ tt (lock_counted last s well x (lock_count s x - 1) (found_born last s well x o found)))
+  answered line (Note k r) next within fits =
+      on_object last s well (register_value s r) _ (λ x o found. choice (is_immobile o.kind || nat_lt 0 (lock_count s x)) _ _ (noted_well_formed last s well k x (found_born last s well x o found)) tt)
+  answered line (Check k r) next within fits = check_kept k (register_value s r) (slice_index_or s.notes k states.empty)
+  answered line (Collect args) next within fits = collection_kept args
+  answered line (Print value) next within fits = well
+  answered line Census next within fits = well
+  answered line (Gen value) next within fits = well
+  answered line Version next within fits = choice (line == 1) _ _ two_versioned tt
+  answered line (TablePut d table mode key value) next within fits =
       on_table (register_value s table) _ (λ x o found is.
       on_key (operand_value s key) _
-      (put_kept line d x o mode (operand_value s key) (operand_value s value) (free_in s.graph o) next found is
-      (two_fit key value (table_operands key value _ _ _ fits)) (operands_there s well key value)
+      (put_kept line d x o mode (operand_value s key) (operand_value s value) (free_in s.graph o) next within found is
+      (two_fit key value (table_operands key value _ _ _ fits)) (operands_there last s well key value)
       (where_in s.graph o (operand_value s key)) refl))
-  answered line (TableGet d table key) next fits =
+  answered line (TableGet d table key) next within fits =
       on_table (register_value s table) _ (λ x o found is.
       on_key (operand_value s key) _
-      (on_found o (where_in s.graph o (operand_value s key)) _ (λ v fit there. register_well_formed s d v well fit there)))
-  answered line (TableDel table key) next fits =
+      (on_found o (where_in s.graph o (operand_value s key)) _ (λ v fit there. register_well_formed last s d v well fit there)))
+  answered line (TableDel table key) next within fits =
       on_table (register_value s table) _ (λ x o found is.
       on_key (operand_value s key) _ (emptied_kept x o (where_in s.graph o (operand_value s key)) found is))
-  answered line (Path from to) next fits =
-      on_object s well (register_value s from) _ (λ x o found. on_object s well (operand_value s to) _ (λ y p found_too. well))
-  answered line (Size from) next fits = well
+  answered line (Path from to) next within fits =
+      on_object last s well (register_value s from) _ (λ x o found. on_object last s well (operand_value s to) _ (λ y p found_too. well))
+  answered line (Size from) next within fits = well
 
--- Each command keeps a state well formed.
-pub step_well_formed : (s s' : State) (line : ℕ) (c : Command) (text : List ℕ) → IsWellFormed s → IsNext s line → IsTrue (operands_fit c) → step s line c ≡ Ok (s', text) → IsWellFormed s'
-step_well_formed s s' line c text well next fits e = subst IsWellAnswered e (answered s well line c next fits)
+-- Each command keeps a state well formed, and brings in no number but its line.
+pub step_well_formed : (last : ℕ) (s s' : State) (line : ℕ) (c : Command) (text : List ℕ) → IsWellFormedTo last s → IsNext s line → line ≤ last → IsTrue (operands_fit c) → step s line c ≡ Ok (s', text) → IsWellFormedTo last s'
+step_well_formed last s s' line c text well next within fits e = subst (IsWellAnswered last) e (answered last s well line c next within fits)

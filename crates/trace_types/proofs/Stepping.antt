@@ -14,7 +14,7 @@ use Rattle.trace_types.specs.Values.{Value, is_value, objects_in, Object, object
 use Rattle.trace_types.specs.States.{State, Registration, with_register, with_object, locked}
 use Rattle.trace_types.specs.Rules.{has, ◌⊆◌}
 use Rattle.trace_types.specs.Kept.{is_of_kind}
-use Rattle.trace_types.specs.WellFormed.{fields_fit, greatest_line, registration_lines, IsObject, IsWellFormed, IsNext, has_its_fields, occurrences, numbers, births, named, noted, named_by_object, named_by_registration}
+use Rattle.trace_types.specs.WellFormed.{fields_fit, registration_lines, IsObject, IsWellFormedTo, IsNext, has_its_fields, occurrences, numbers, births, named, noted, named_by_object, named_by_registration}
 use Rattle.trace_types.proofs.Least.{each_weaker, list_all_from_each}
 use Rattle.trace_types.proofs.Meeting.{each_found, each_append}
 use Rattle.trace_types.proofs.Graphs.{put_last, object_at-put, find_first}
@@ -29,8 +29,8 @@ objects_in_set (w ∷ vs) zero v xs h k = objects_both (v ∷ []) vs xs k (objec
 objects_in_set (w ∷ vs) (suc i) v xs h k = objects_both (w ∷ []) (set vs i v) xs (objects_left (w ∷ []) vs xs h) (objects_in_set vs i v xs (objects_right (w ∷ []) vs xs h) k)
 
 -- a register may get any value whose object is in the graph
-pub register_well_formed : (s : State) (r : ℕ) (v : Value) → IsWellFormed s → IsTrue (is_value v) → objects_in (v ∷ []) ⊆ births s → IsWellFormed (with_register s r v)
-register_well_formed s r v well fits there =
+pub register_well_formed : (last : ℕ) (s : State) (r : ℕ) (v : Value) → IsWellFormedTo last s → IsTrue (is_value v) → objects_in (v ∷ []) ⊆ births s → IsWellFormedTo last (with_register s r v)
+register_well_formed last s r v well fits there =
     let names = names_parts s (births s) well.in_graph in
     record {
       ordered = well.ordered;
@@ -88,7 +88,7 @@ births_below s line next =
     let births_part = occurrences-append e.0 (births s) (registration_lines s) in
     lt-ltb e.0 line (next.above e.0 (omega (arith, once, parts, births_part)))) s.graph (born_once s.graph)
 
-module _ (s : State) (line : ℕ) (kind : Kind) (fields : List Value) (well : IsWellFormed s) (next : IsNext s line) (shape : IsTrue (has_its_fields kind fields)) (fits : IsTrue (fields_fit kind fields)) (there : objects_in fields ⊆ births s) where
+module _ (last : ℕ) (s : State) (line : ℕ) (kind : Kind) (fields : List Value) (well : IsWellFormedTo last s) (next : IsNext s line) (within : line ≤ last) (shape : IsTrue (has_its_fields kind fields)) (fits : IsTrue (fields_fit kind fields)) (there : objects_in fields ⊆ births s) where
   abbrev pub made : Object
   made = record { kind = kind; creator = s.thread; generation = 0; fields = fields; queue = [] }
 
@@ -98,21 +98,21 @@ module _ (s : State) (line : ℕ) (kind : Kind) (fields : List Value) (well : Is
   above : IsTrue (list_all (λ e. nat_lt e.0 line) s.graph)
   above = list_all_from_each (λ e. nat_lt e.0 line) s.graph (births_below s line next)
 
-  last : put nat_cmp line made s.graph ≡ grown
-  last = put_last s.graph line made above
+  put_is_last : put nat_cmp line made s.graph ≡ grown
+  put_is_last = put_last s.graph line made above
 
   pub more_births : births s ⊆ births (with_object s line made)
-  more_births = subst (λ g. births s ⊆ map first g) (sym last) (subst (λ xs. births s ⊆ xs) (sym (map-append first s.graph ((line, made) ∷ []))) (append_left_sub (births s) (line ∷ []) (births s ++ line ∷ []) (λ x h. h)))
+  more_births = subst (λ g. births s ⊆ map first g) (sym put_is_last) (subst (λ xs. births s ⊆ xs) (sym (map-append first s.graph ((line, made) ∷ []))) (append_left_sub (births s) (line ∷ []) (births s ++ line ∷ []) (λ x h. h)))
 
   pub new_birth : (line ∷ []) ⊆ births (with_object s line made)
-  new_birth = subst (λ g. (line ∷ []) ⊆ map first g) (sym last) (subst (λ xs. (line ∷ []) ⊆ xs) (sym (map-append first s.graph ((line, made) ∷ []))) (append_right_sub (births s) (line ∷ []) (births s ++ line ∷ []) (λ x h. h)))
+  new_birth = subst (λ g. (line ∷ []) ⊆ map first g) (sym put_is_last) (subst (λ xs. (line ∷ []) ⊆ xs) (sym (map-append first s.graph ((line, made) ∷ []))) (append_right_sub (births s) (line ∷ []) (births s ++ line ∷ []) (λ x h. h)))
 
   each_grown : (P : ℕ × Object → Type 0) → AllByRecursion P s.graph → P (line, made) → AllByRecursion P (put nat_cmp line made s.graph)
-  each_grown P h k = subst (λ g. AllByRecursion P g) (sym last) (each_append P s.graph ((line, made) ∷ []) h (k, tt))
+  each_grown P h k = subst (λ g. AllByRecursion P g) (sym put_is_last) (each_append P s.graph ((line, made) ∷ []) h (k, tt))
 
   new_numbers : (n : ℕ) → occurrences n (numbers (with_object s line made)) ≡ occurrences n (numbers s) + one_if (line == n)
   new_numbers n =
-      subst (λ g. occurrences n (map first g ++ lines ++ flat_map queue_lines g) ≡ occurrences n (numbers s) + one_if (line == n)) (sym last)
+      subst (λ g. occurrences n (map first g ++ lines ++ flat_map queue_lines g) ≡ occurrences n (numbers s) + one_if (line == n)) (sym put_is_last)
       (let whole = occurrences-append n (map first grown ++ lines) (flat_map queue_lines grown) in
       let front = occurrences-append n (map first grown) lines in
       let born : occurrences n (map first grown) ≡ occurrences n (births s) + (one_if (line == n) + 0) = ap (occurrences n) (map-append first s.graph ((line, made) ∷ [])) ∙ occurrences-append n (births s) (line ∷ []) in
@@ -155,15 +155,15 @@ module _ (s : State) (line : ℕ) (kind : Kind) (fields : List Value) (well : Is
         | inr other ↦ let no_more : one_if (line == n) ≡ 0 = ap one_if other in omega (arith, now, before, no_more)
       ]
 
-  new_in_range : (n : ℕ) → 1 ≤ occurrences n (numbers (with_object s line made)) → (1 ≤ n) × (n ≤ greatest_line)
+  new_in_range : (n : ℕ) → 1 ≤ occurrences n (numbers (with_object s line made)) → (1 ≤ n) × (n ≤ last)
   new_in_range n h =
       let now = new_numbers n in
       elim (cases_Bool (line == n)) [
-        | inl same ↦ subst (λ m. (1 ≤ m) × (m ≤ greatest_line)) (eqb-true line n same) (next.counted, next.bounded)
+        | inl same ↦ subst (λ m. (1 ≤ m) × (m ≤ last)) (eqb-true line n same) (next.counted, within)
         | inr other ↦ let no_more : one_if (line == n) ≡ 0 = ap one_if other in well.in_range n (omega (arith, now, no_more, h))
       ]
 
-  pub new_well_formed : IsWellFormed (with_object s line made)
+  pub new_well_formed : IsWellFormedTo last (with_object s line made)
   new_well_formed =
       let names = names_parts s (births s) well.in_graph in
       let wider = λ (xs : List ℕ) (h : xs ⊆ births s) (x : ℕ) (i : IsTrue (has xs x)). more_births x (h x i) in
@@ -291,8 +291,8 @@ module _ (x : ℕ) (o' : Object) where
       same_Some h = cc
 
 -- an object may be changed where it stays an object of its kind and names only objects of the graph
-pub changed_well_formed : (s : State) (x : ℕ) (o o' : Object) → IsWellFormed s → object_at s.graph x ≡ Some o → IsObject s.version s.oldest o' → is_guardian o'.kind ≡ is_guardian o.kind → named_by_object (x, o') ⊆ births s → ((n : ℕ) → occurrences n (queue_lines (x, o')) ≤ occurrences n (queue_lines (x, o))) → IsWellFormed (with_object s x o')
-changed_well_formed s x o o' well found is same_guard there fewer =
+pub changed_well_formed : (last : ℕ) (s : State) (x : ℕ) (o o' : Object) → IsWellFormedTo last s → object_at s.graph x ≡ Some o → IsObject s.version s.oldest o' → is_guardian o'.kind ≡ is_guardian o.kind → named_by_object (x, o') ⊆ births s → ((n : ℕ) → occurrences n (queue_lines (x, o')) ≤ occurrences n (queue_lines (x, o))) → IsWellFormedTo last (with_object s x o')
+changed_well_formed last s x o o' well found is same_guard there fewer =
     let names = names_parts s (births s) well.in_graph in
     let same : births (with_object s x o') ≡ births s = births_put x o' s.graph o well.ordered found in
     record {

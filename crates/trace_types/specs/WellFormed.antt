@@ -86,15 +86,16 @@ pub record IsObject (version oldest : ℕ) (o : Object) : Type 0 where
 
 -- ---- states
 
-pub record IsWellFormed (s : State) : Type 0 where
+-- what makes a state well formed, with no number in it above this one
+pub record IsWellFormedTo (last : ℕ) (s : State) : Type 0 where
   pub ordered : IsTrue (is_sorted nat_cmp s.graph)
   pub objects : All (λ entry. IsObject s.version s.oldest entry.1) s.graph
   -- every birth that is named is in the graph
   pub in_graph : named s ⊆ births s
   pub guardians : All (λ r. IsTrue (is_of_kind is_guardian (object_at s.graph r.guardian))) s.registrations
-  -- births, registration lines and lines in queues all differ, and are lines of a trace
+  -- births, registration lines and lines in queues all differ, and are from 1 to `last`
   pub differ : (n : ℕ) → occurrences n (numbers s) ≤ 1
-  pub in_range : (n : ℕ) → 1 ≤ occurrences n (numbers s) → (1 ≤ n) × (n ≤ greatest_line)
+  pub in_range : (n : ℕ) → 1 ≤ occurrences n (numbers s) → (1 ≤ n) × (n ≤ last)
   pub lines_ordered : IsTrue (is_ascending (registration_lines s))
   pub registration_values : All (λ r. IsTrue (is_value r.object && is_value r.representative)) s.registrations
   pub locks_ordered : IsTrue (is_sorted nat_cmp s.locks)
@@ -105,6 +106,10 @@ pub record IsWellFormed (s : State) : Type 0 where
   pub thread : s.thread ≤ 63
   pub oldest : (1 ≤ s.oldest) × (s.oldest ≤ 7)
   pub version : IsTrue (s.version == 1 || s.version == 2)
+
+-- the numbers are lines of a trace
+abbrev pub IsWellFormed : State → Type 0
+IsWellFormed s = IsWellFormedTo greatest_line s
 
 -- the line comes after every birth and line of the state
 pub record IsNext (s : State) (line : ℕ) : Type 0 where
