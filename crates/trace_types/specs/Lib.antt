@@ -5,6 +5,7 @@ pub mod States
 pub mod Rules
 pub mod Kept
 pub mod Closed
+pub mod WellFormed
 pub mod Collections
 pub mod Printing
 pub mod Tables

@@ -1,5 +1,5 @@
 -- What each command does to a state and prints, or its fault.
-use Rattle.std.specs.Prelude.{ℕ, zero, suc, ◌+◌, ◌-◌, pos, negsuc, Bool, false, not, ◌&&◌, ◌||◌, ◌==◌, nat_lt, nat_le, List, [], ◌∷◌, ◌++◌, length, replicate, set, slice_index_or, codes, Option, Some, None, Result, Ok, Err, if◌then◌else◌}
+use Rattle.std.specs.Prelude.{ℕ, zero, suc, ◌+◌, ◌-◌, pos, Bool, false, not, ◌&&◌, ◌||◌, ◌==◌, nat_lt, nat_le, List, [], ◌∷◌, ◌++◌, length, replicate, set, slice_index_or, codes, Option, Some, None, Result, Ok, Err, if◌then◌else◌}
 use Rattle.std.specs.FinMap.{put}
 use Rattle.std.specs.FinMap.Entries.{where_key}
 use Rattle.std.specs.Ordering.{nat_cmp}
@@ -11,7 +11,7 @@ use Rattle.trace_types.specs.declared.operand.CollectArgs.{CollectArgs}
 use Rattle.trace_types.specs.declared.operand.CollectArgs.TheVariants.{Plain, Explicit}
 use Rattle.trace_types.specs.declared.fault.Fault.{Fault}
 use Rattle.trace_types.specs.declared.fault.Fault.TheVariants.{WrongKind, BadIndex, BadLength, NotLocked, NotFixed, BadNote, BadGeneration, TableFull, UnknownCommand}
-use Rattle.trace_types.specs.Values.{Value, fixnum, nil, false_value, bwp, object, same_value, Object, Graph, object_at, object_of_value, is_guardian, has_bytes, is_immobile, field_at, value_of}
+use Rattle.trace_types.specs.Values.{Value, fixnum, nil, false_value, bwp, object, same_value, Object, Graph, object_at, object_of_value, is_guardian, has_bytes, is_immobile, is_byte, field_at, value_of}
 use Rattle.trace_types.specs.States.{State, Registration, register_value, operand_value, with_register, with_object, with_field, with_new, lock_count, Answer, silently}
 use Rattle.trace_types.specs.States as states
 use Rattle.trace_types.specs.Faults.{◌>>=◌}
@@ -64,13 +64,6 @@ with_registration s r = record s { registrations = s.registrations ++ r ∷ [] }
 abbrev pub take_first : State → ℕ → ℕ → Object → List (Value × ℕ) → State
 take_first s d birth o [] = with_register s d false_value
 take_first s d birth o (entry ∷ rest) = with_register (with_object s birth (record o { queue = rest })) d entry.0
-
--- ---- fields
-
-abbrev pub is_byte : Value → Bool
-is_byte (fixnum (pos n)) = nat_lt n 256
-is_byte (fixnum (negsuc n)) = false
-is_byte _ = false
 
 -- ---- locks and notes
 

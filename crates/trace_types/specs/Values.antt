@@ -1,5 +1,5 @@
 -- Values, objects and graphs. An object is named by its birth, the number of the line that made it.
-use Rattle.std.specs.Prelude.{◌∷◌, ℕ, ◌+◌, ◌*◌, ◌/◌, ◌==◌, length, ℤ, Bool, true, false, List, [], ◌++◌, map, drop, flat_map, slice_index_or, Option, None}
+use Rattle.std.specs.Prelude.{◌∷◌, ℕ, ◌+◌, ◌^◌, pos, negsuc, nat_lt, ◌*◌, ◌/◌, ◌==◌, length, ℤ, Bool, true, false, List, [], ◌++◌, map, drop, flat_map, slice_index_or, Option, None}
 use Rattle.std.specs.FinMap.{find}
 use Rattle.std.specs.Ordering.{nat_cmp, int_eq}
 use Rattle.trace_types.specs.declared.kind.Kind.{Kind}
@@ -12,6 +12,22 @@ pub data Value : Type 0 where
   fixnum : ℤ → Value
   nil true_value false_value bwp : Value
   object : ℕ → Value
+
+-- A fixnum has 61 bits, so it is from -2^60 to 2^60 - 1. What antt calls `negsuc n` is -(n + 1).
+abbrev pub is_fixnum : ℤ → Bool
+is_fixnum (pos n) = nat_lt n (2 ^ 60)
+is_fixnum (negsuc n) = nat_lt n (2 ^ 60)
+
+-- whether the value is no fixnum out of range
+abbrev pub is_value : Value → Bool
+is_value (fixnum n) = is_fixnum n
+is_value _ = true
+
+-- whether the value is a number from 0 to 255
+abbrev pub is_byte : Value → Bool
+is_byte (fixnum (pos n)) = nat_lt n 256
+is_byte (fixnum (negsuc n)) = false
+is_byte _ = false
 
 -- the object that the value is: one, or none of an immediate
 abbrev pub object_in : Value → List ℕ
