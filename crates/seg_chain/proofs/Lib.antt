@@ -1,0 +1,5 @@
+pub mod Counts
+pub mod Paths
+pub mod Moves
+pub mod Calls
+pub mod Laws
