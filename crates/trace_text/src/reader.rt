@@ -198,3 +198,72 @@ impl LineReader {
         self.advance(source)
     }
 }
+
+#[cfg(test)]
+mod tests {
+    use super::*;
+    use gc_io::MemSource;
+    use std::test::Fail;
+
+    // What eight calls answer: each line behind a `|`, else `T` for TooLong, `E` for End, `F` for Failed.
+    fn answers(
+        alloc: Global,
+        input: &[u8],
+        piece: usize,
+        fails: &[u64],
+    ) -> Result<Vec<u8>, AllocError> {
+        let bytes = Vec::from_slice(alloc, input)?;
+        let mut source = MemSource::new(bytes, piece.max(1), Vec::from_slice(alloc, fails)?);
+        let mut reader = LineReader::new(alloc)?;
+        let mut answers = Vec::new(alloc);
+        for _ in 0..8 {
+            answers.push(match reader.next(&mut source) {
+                Ok(Next::Line) => b'|',
+                Ok(Next::TooLong) => b'T',
+                Ok(Next::End) => b'E',
+                Err(Failed) => b'F',
+            })?;
+            answers.extend_from_slice(reader.line())?;
+        }
+        Ok(answers)
+    }
+
+    #[test]
+    fn lines_come_in_order(rt: HostRuntime) -> Result<(), Fail> {
+        let cases: [(&[u8], usize, &[u64], &[u8]); 7] = [
+            (b"", 1, &[], b"EEEEEEEE"),
+            (b"\n", 1, &[], b"|EEEEEEE"),
+            (b"gen r0\n\ngen t", 1, &[], b"|gen r0||gen tEEEEE"),
+            (b"gen r0\n\ngen t\n", 4096, &[], b"|gen r0||gen tEEEEE"),
+            // A failed read loses nothing, and comes only where no whole line is held.
+            (b"gen r0\ngen r1\n", 10, &[2], b"|gen r0F|gen r1EEEEE"),
+            (b"gen r0\ngen r1", 4, &[1, 4, 5], b"F|gen r0FF|gen r1EEE"),
+            (b"gen r0\ngen r1\n", 64, &[2], b"|gen r0|gen r1FEEEEE"),
+        ];
+        for (input, piece, fails, want) in cases {
+            let got = answers(rt.alloc(), input, piece, fails)?;
+            assert_eq!(rt; got.as_slice(), want);
+        }
+        Ok(())
+    }
+
+    #[test]
+    fn a_line_has_at_most_1024_bytes(rt: HostRuntime) -> Result<(), Fail> {
+        for piece in [1, 10, 1024, 1025, 4096] {
+            let mut input = vec![in rt.alloc(); b'x'; 1024]?;
+            let last = answers(rt.alloc(), &input, piece, &[])?;
+            assert_eq!(rt; last.len(), 8 + 1024);
+            assert_eq!(rt; &last[1025..], b"EEEEEEE".as_slice());
+            input.push(b'\n')?;
+            let longest = answers(rt.alloc(), &input, piece, &[])?;
+            assert_eq!(rt; longest.as_slice(), last.as_slice());
+            input[1024] = b'x';
+            let too_long = answers(rt.alloc(), &input, piece, &[])?;
+            assert_eq!(rt; too_long.as_slice(), b"TTTTTTTT".as_slice());
+            input.push(b'\n')?;
+            let ended = answers(rt.alloc(), &input, piece, &[])?;
+            assert_eq!(rt; ended.as_slice(), b"TTTTTTTT".as_slice());
+        }
+        Ok(())
+    }
+}
