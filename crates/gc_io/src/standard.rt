@@ -119,6 +119,7 @@ impl<W: Write> Sink for StdSink<W> {
 #[cfg(test)]
 mod tests {
     use super::*;
+    use std::io::BufWriter;
     use std::test::Fail;
 
     #[test]
@@ -135,11 +136,13 @@ mod tests {
 
     #[test]
     fn a_sink_hands_its_bytes_to_its_writer(rt: HostRuntime) -> Result<(), Fail> {
-        let mut sink = StdSink::new(Vec::new(rt.alloc()));
+        let writer = BufWriter::new(rt.alloc(), Vec::new(rt.alloc()))?;
+        let mut sink = StdSink::new(writer);
         assert_eq!(rt; sink.write(b"abc"), Ok(3));
         assert_eq!(rt; sink.write(b"d"), Ok(1));
+        assert_eq!(rt; sink.inner.get_ref().as_slice(), b"".as_slice());
         assert_eq!(rt; sink.flush(), Ok(()));
-        assert_eq!(rt; sink.inner.as_slice(), b"abcd".as_slice());
+        assert_eq!(rt; sink.inner.get_ref().as_slice(), b"abcd".as_slice());
         Ok(())
     }
 }

@@ -5,7 +5,7 @@ use Rattle.std.proofs.lemmas.List.{take-append-drop, take-take, drop-take, drop-
 use borrow.Rule.Slice.PartMut.{put_mid, post_of}
 use Rattle.gc_io.specs.Outside.{Reads}
 use Rattle.gc_io.specs.declared.traits.Failed.{Failed}
-use Rattle.trace_text.specs.Behind.{ReadsBehind}
+use Rattle.trace_text.specs.Steps.{ReadsBehind}
 use Rattle.std.specs.Result.{IfOk}
 use Rattle.trace_types.specs.Lines.{IsPlain, first_of}
 

@@ -2,8 +2,8 @@
 use Rattle.std.proofs.Common.{◌≡◌, ℕ, ◌<◌, ◌≤◌, List, [], ◌∷◌, ◌++◌, length, Option, Result, Ok, Err, true, false, refl, sym, ◌∙◌, ap, arith, append-nil, length-append, inl, inr, eqb, cond, Bool}
 use Rattle.std.proofs.lemmas.Bool.{ne_eqb}
 use Rattle.trace_types.specs.Lines.{IsPlain, first_of}
-use Rattle.trace_text.specs.Reader.{Reader}
-use Rattle.trace_text.specs.Next.{Nexts, Answers, GivesLine, HoldsTooLong, HoldsEnd}
+use Rattle.trace_text.specs.Reader.{Reader, HoldsTooLong, HoldsEnd}
+use Rattle.trace_text.specs.Next.{Nexts, Answers, GivesLine}
 use Rattle.trace_text.specs.declared.reader.Next.{Next}
 use Rattle.trace_text.specs.declared.reader.Next.TheVariants.{Line, TooLong, End}
 use Rattle.gc_io.specs.declared.traits.Failed.{Failed}

@@ -1,11 +1,11 @@
 -- What the next line is.
-use Rattle.std.specs.Prelude.{◌≡◌, ◌≢◌, ◌⊎◌, ℕ, ◌<◌, ◌≤◌, List, [], ◌∷◌, ◌++◌, length, true, false, Option, Some, None, Result, Ok, Err}
+use Rattle.std.specs.Prelude.{◌≡◌, ◌≢◌, ◌⊎◌, ℕ, ◌<◌, ◌≤◌, List, [], ◌∷◌, ◌++◌, length, true, false, Option, Some, Result, Ok, Err}
+use Rattle.std.specs.Io.KnownBytes.{Consumes}
+use Rattle.gc_io.specs.declared.traits.Failed.{Failed}
 use Rattle.trace_types.specs.Lines.{IsPlain, first_of, lines_of, head_line}
-use Rattle.trace_text.specs.Reader.{Reader}
+use Rattle.trace_text.specs.Reader.{Reader, HoldsLess}
 use Rattle.trace_text.specs.declared.reader.Next.{Next}
 use Rattle.trace_text.specs.declared.reader.Next.TheVariants.{Line, TooLong, End}
-use Rattle.std.specs.Io.KnownBytes.{Consumes, IsAtEnd}
-use Rattle.gc_io.specs.declared.traits.Failed.{Failed}
 
 -- Of these bytes a line was given that a newline ends, all within 4,096 bytes with what is held.
 pub record GivesEnded (bytes : List ℕ) (new : Reader) : Type 0 where
@@ -19,7 +19,7 @@ pub record GivesLast (bytes : List ℕ) (new : Reader) : Type 0 where
   pub nothing : new.held ≡ []
   pub ended : new.ended ≡ true
 
--- a line of at most 1,024 bytes
+-- A line of at most 1,024 bytes was given.
 pub record GivesLine (bytes : List ℕ) (new : Reader) : Type 0 where
   pub plain : IsPlain new.line
   pub short : length new.line ≤ 1024
@@ -46,7 +46,7 @@ pub record KeepsAll (bytes : List ℕ) (new : Reader) : Type 0 where
   pub line : new.line ≡ []
   pub going : new.ended ≡ false
 
--- what is answered of the bytes that were held and those that were taken
+-- what each answer says of the bytes that were held and those that were taken
 abbrev pub Gives : Next → List ℕ → Reader → Type 0
 Gives Line bytes new = GivesLine bytes new
 Gives TooLong bytes new = GivesTooLong bytes new
@@ -56,43 +56,18 @@ abbrev pub Answers : Result Next Failed → List ℕ → Reader → Type 0
 Answers (Ok next) bytes new = Gives next bytes new
 Answers (Err _) bytes new = KeepsAll bytes new
 
--- What is held says, without a read, what comes next, if it does.
-abbrev pub Splits : Option Next → List ℕ → Reader → Type 0
-Splits (Some next) bytes new = Gives next bytes new
-Splits None bytes new = KeepsAll bytes new
-
--- More bytes were taken, or the source has ended.
-pub record Fills (before after : Option (List ℕ)) (old new : Reader) : Type 0 where
-  pub taken : List ℕ
-  pub consumed : Consumes before after taken
-  pub held : new.held ≡ old.held ++ taken
-  pub line : new.line ≡ []
-  pub either : ((taken ≡ []) × (new.ended ≡ true) × IsAtEnd after) ⊎ ((0 < length taken) × (new.ended ≡ old.ended))
-
--- Less than a line is held of a source that has not ended.
-pub record HoldsLess (reader : Reader) : Type 0 where
-  pub plain : IsPlain reader.held
-  pub short : length reader.held ≤ 1024
-  pub going : reader.ended ≡ false
-
--- More than 1,024 bytes of a line are held.
-abbrev pub HoldsTooLong : Reader → Type 0
-HoldsTooLong reader = 1024 < length (first_of reader.held)
-
--- No byte is held, and the source has ended.
-abbrev pub HoldsEnd : Reader → Type 0
-HoldsEnd reader = (reader.held ≡ []) × (reader.ended ≡ true)
-
--- What the next line is: bytes were taken, only where less than a line was held, and answered with what was held.
+-- Bytes were taken, only where less than a line was held, and the answer is of what was held and these.
 pub record Nexts (before after : Option (List ℕ)) (result : Result Next Failed) (old new : Reader) : Type 0 where
   pub taken : List ℕ
   pub consumed : Consumes before after taken
   pub asked : (taken ≡ []) ⊎ HoldsLess old
   pub answer : Answers result (old.held ++ taken) new
 
--- What was answered of the bytes that were held or left, in terms of their lines.
+-- What each answer says of the lines of all the bytes that were held or left: their first line was given, is too long,
+-- or isn't there; a failed read leaves them as they were.
 abbrev pub GivesLines : Result Next Failed → List ℕ → Reader → Option (List ℕ) → Type 0
-GivesLines (Ok Line) bytes new after = (rest : List ℕ) × (after ≡ Some rest) × (lines_of bytes ≡ new.line ∷ lines_of (new.held ++ rest)) × (length new.line ≤ 1024)
+GivesLines (Ok Line) bytes new after =
+    (rest : List ℕ) × (after ≡ Some rest) × (lines_of bytes ≡ new.line ∷ lines_of (new.held ++ rest)) × (length new.line ≤ 1024)
 GivesLines (Ok TooLong) bytes new after = 1024 < length (head_line (lines_of bytes))
 GivesLines (Ok End) bytes new after = lines_of bytes ≡ []
 GivesLines (Err _) bytes new after = (rest : List ℕ) × (after ≡ Some rest) × (lines_of bytes ≡ lines_of (new.held ++ rest))

@@ -3,7 +3,7 @@ ghost use Rattle.std.specs.Prelude.{◌≡◌, ◌+◌, ◌<◌, ◌≤◌, leng
 ghost use Rattle.std.specs.Io.KnownBytes.{Keeps};
 ghost use Rattle.gc_io.specs.Outside.{HasCause};
 ghost use Rattle.trace_types.specs.Lines.{IsPlain};
-ghost use Rattle.trace_text.specs.Behind.{ReadsBehind};
+ghost use Rattle.trace_text.specs.Steps.{ReadsBehind};
 
 use gc_io::{Failed, Source};
 use memchr::memchr;

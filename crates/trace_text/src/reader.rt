@@ -1,6 +1,6 @@
 // The reader of lines.
 ghost use Rattle.std.specs.Prelude.{◌≡◌, ◌⊎◌, ◌<◌, ◌≤◌, ◌++◌, [], true, false, length, Ok, IfOk, OnOk, OnErr, List, ℕ};
-ghost use Rattle.std.specs.Io.KnownBytes.{Keeps, IsAtEnd};
+ghost use Rattle.std.specs.Io.KnownBytes.{Keeps};
 ghost use Rattle.gc_io.specs.Outside.{HasCause};
 
 use crate::bytes::{newline_after, read_behind};
@@ -57,7 +57,9 @@ impl Model for LineReader {
 }
 
 impl LineReader {
-    ghost use Rattle.trace_text.specs.Next.{Nexts, GivesLines, Splits, Fills, HoldsLess, HoldsTooLong, HoldsEnd};
+    ghost use Rattle.trace_text.specs.Reader.{HoldsLess, HoldsTooLong, HoldsEnd, KnowsEnd};
+    ghost use Rattle.trace_text.specs.Next.{Nexts, GivesLines};
+    ghost use Rattle.trace_text.specs.Steps.{Splits, Fills};
     ghost use Rattle.trace_types.specs.Lines.{IsPlain};
 
     /// A reader that has taken nothing. All its memory is taken here.
@@ -158,8 +160,7 @@ impl LineReader {
     // Reads on until a line, a line that is too long, or the end has come.
     fn advance<S: Source>(&mut self, source: &mut S) -> Result<Next, Failed>
         ensures next { Nexts (S.left source.old) (S.left source.new) result self.old self.new }
-        ensures ended { (self.old.ended ≡ true → IsAtEnd (S.left source.old))
-            → self.new.ended ≡ true → IsAtEnd (S.left source.new) }
+        ensures ended { KnowsEnd self.old (S.left source.old) → KnowsEnd self.new (S.left source.new) }
         ensures stays { self.old.ended ≡ true → self.new.ended ≡ true }
         ensures asks { (source.new ≡ source.old) ⊎ HoldsLess self.old }
         ensures cause { HasCause (S.faults source.old) (S.faults source.new) result }
@@ -180,15 +181,14 @@ impl LineReader {
     /// call goes on with all that was taken. A read asks for at most 4,096 bytes.
     pub fn next<S: Source>(&mut self, source: &mut S) -> Result<Next, Failed>
         // The lines of all the bytes come one by one, in whatever pieces the source gives them.
-        ensures lines { (self.old.ended ≡ true → IsAtEnd (S.left source.old)) → (bytes : List ℕ) → S.left source.old ≡ Some bytes →
-            GivesLines result (self.old.held ++ bytes) self.new (S.left source.new) }
+        ensures lines { KnowsEnd self.old (S.left source.old) → (left : List ℕ) → S.left source.old ≡ Some left
+            → GivesLines result (self.old.held ++ left) self.new (S.left source.new) }
         ensures next { Nexts (S.left source.old) (S.left source.new) result self.old self.new }
         ensures long { HoldsTooLong self.old → result ≡ Ok Next.TooLong }
         ensures end { HoldsEnd self.old → result ≡ Ok Next.End }
 
         // The end that it tells is the source's, and it stays.
-        ensures ended { (self.old.ended ≡ true → IsAtEnd (S.left source.old))
-            → self.new.ended ≡ true → IsAtEnd (S.left source.new) }
+        ensures ended { KnowsEnd self.old (S.left source.old) → KnowsEnd self.new (S.left source.new) }
         ensures stays { self.old.ended ≡ true → self.new.ended ≡ true }
 
         // The source is asked only where less than a line is held.
