@@ -16,3 +16,5 @@ pub mod Reading
 pub mod Run
 pub mod Runs
 pub mod Workloads
+pub mod Rows
+pub mod worked
