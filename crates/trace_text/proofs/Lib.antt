@@ -1,0 +1,4 @@
+pub mod Answering
+pub mod Shaping
+pub mod Splitting
+pub mod Wording
