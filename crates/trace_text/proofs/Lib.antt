@@ -3,3 +3,7 @@ pub mod Going
 pub mod Lining
 pub mod Lasting
 pub mod Searches
+pub mod Answering
+pub mod Shaping
+pub mod Splitting
+pub mod Wording

@@ -1,16 +1,25 @@
-//! The lines of a trace, one by one, from a source that gives its bytes in any pieces.
+//! The lines of a trace, one by one, and what a line says.
 //!
-//! A [`LineReader`] is seen as the bytes that it has taken and not yet given, the line that it
-//! gave last, and whether its source has ended. Its invariant: all of these bytes lie in one
-//! buffer of 4,096 bytes, and a known front of what is held has no newline, so that no byte is
-//! searched twice.
+//! A [`LineReader`] takes bytes from a source that gives them in any pieces, and gives lines. Contracts see it as the
+//! bytes that it has taken and not yet given, the line that it gave last, and whether its source has ended. Its invariant:
+//! all of these bytes lie in one buffer of 4,096 bytes, and a known front of what is held has no newline, so that no byte
+//! is searched twice. A line is ended by the byte 10; bytes after the last one are a line too. A line of more than 1,024
+//! bytes is too long.
 //!
-//! A line is ended by the byte 10; bytes after the last one are a line too. A line of more than
-//! 1,024 bytes is too long. Only [`LineReader::new`] takes memory, so reading never wants any.
-//! All of this is this project's own.
+//! [`read_command`] reads the fields of a line from left to right, by the grammar that `trace_types` defines, and answers
+//! nothing, one command, or the first fault.
+//!
+//! Only [`LineReader::new`] takes memory. All of this is this project's own.
 #![tactic(auto)]
 
 mod bytes;
+mod command;
+mod fields;
+mod numeral;
+mod operands;
 mod reader;
+mod rows;
+mod shapes;
 
+pub use command::read_command;
 pub use reader::{LineReader, Next};
