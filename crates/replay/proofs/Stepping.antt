@@ -1,0 +1,59 @@
+-- What the commands leave of the engine, from what the calls of the heap leave.
+use Rattle.std.proofs.Common.{◌≡◌, ◌≢◌, ℕ, List, [], ◌++◌, true, false, Result, Ok, Err, OnOk, OnErr, refl, sym, ◌∙◌, ap, subst, append-nil}
+use Rattle.trace_types.specs.declared.command.Command.{Command}
+use Rattle.trace_types.specs.declared.command.Command.TheVariants.{Cons, Print}
+use Rattle.trace_types.specs.declared.operand.Operand.{Operand}
+use Rattle.trace_types.specs.declared.fault.Fault.{Fault}
+use Rattle.trace_types.specs.States.{State, Answer, operand_value}
+use Rattle.trace_types.specs.Printing.{print_text}
+use Rattle.trace_types.specs.Steps.{step}
+use Rattle.plain_heap.specs.HeapView.{HeapView}
+use Rattle.plain_heap.specs.Plain.{Stands, Obeys}
+use Rattle.plain_heap.specs.declared.error.HeapError.{HeapError}
+use Rattle.plain_heap.specs.declared.error.HeapError.TheVariants.{Failed, NoMemory, Fault as IsFault}
+use Rattle.replay.specs.Built.{built_step}
+use Rattle.replay.specs.Engine.{Steps}
+
+-- an answer that prints nothing
+abbrev IsSilent : Answer → Type 0
+IsSilent (Ok p) = p.1 ≡ []
+IsSilent (Err f) = Unit {0}
+
+-- a command that prints nothing
+obeys_steps : (s : State) (n : ℕ) (c : Command) (a : Answer) (r : Result (Unit {0}) HeapError) (text : List ℕ) (heap : HeapView) →
+    built_step s n c ≡ a → IsSilent a → Obeys s a r heap → Steps s n c r text text heap
+obeys_steps s n c (Ok p) (Ok u) text heap is silent obeys = (p, is, obeys, sym (append-nil text) ∙ ap (λ (t : List ℕ). text ++ t) (sym silent))
+obeys_steps s n c (Ok p) (Err NoMemory) text heap is silent obeys = (obeys, (p, [], is, (p.1, refl), sym (append-nil text)))
+obeys_steps s n c (Ok p) (Err (IsFault f)) text heap is silent obeys = absurd obeys
+obeys_steps s n c (Ok p) (Err Failed) text heap is silent obeys = obeys
+obeys_steps s n c (Err f) (Ok u) text heap is silent obeys = absurd obeys
+obeys_steps s n c (Err f) (Err (IsFault g)) text heap is silent obeys = (is ∙ ap Err obeys.0, obeys.1, refl)
+obeys_steps s n c (Err f) (Err NoMemory) text heap is silent obeys = absurd obeys
+obeys_steps s n c (Err f) (Err Failed) text heap is silent obeys = obeys
+
+silent_cons : (s : State) (n d : ℕ) (car cdr : Operand) → IsSilent (step s n (Cons d car cdr))
+unfolding step
+silent_cons s n d car cdr = refl
+
+pub cons_steps : (s : State) (n d : ℕ) (car cdr : Operand) (r : Result (Unit {0}) HeapError) (text : List ℕ) (heap : HeapView) →
+    Obeys s (step s n (Cons d car cdr)) r heap → Steps s n (Cons d car cdr) r text text heap
+cons_steps s n d car cdr r text heap obeys =
+    obeys_steps s n (Cons d car cdr) (step s n (Cons d car cdr)) r text heap refl (silent_cons s n d car cdr) obeys
+
+step_print : (s : State) (n : ℕ) (v : Operand) → built_step s n (Print v) ≡ Ok (s, print_text s.graph (operand_value s v))
+unfolding step
+step_print s n v = refl
+
+-- what a print leaves: the text is there, or all is as before but for a heap that has failed
+pub print_steps : (s : State) (n : ℕ) (v : Operand) (r : Result (Unit {0}) HeapError) (old new : List ℕ) (before after : HeapView) → Stands before s →
+    OnOk r ((t : State) → Stands before t → new ≡ old ++ print_text t.graph (operand_value t v)) → OnOk r (after ≡ before) →
+    OnErr r ((after ≡ record before { failed = true }) × (new ≡ old)) → (r ≡ Err Failed → before.failed ≡ true) →
+    ((f : Fault) → r ≢ Err (IsFault f)) → Steps s n (Print v) r old new after
+print_steps s n v (Ok u) old new before after stands text kept refused failed no_fault =
+    ((s, print_text s.graph (operand_value s v)), step_print s n v, subst (λ (h : HeapView). Stands h s) (sym kept) stands, text s stands)
+print_steps s n v (Err (IsFault f)) old new before after stands text kept refused failed no_fault = absurd (no_fault f refl)
+print_steps s n v (Err NoMemory) old new before after stands text kept refused failed no_fault =
+    let p : State × List ℕ = (s, print_text s.graph (operand_value s v)) in
+    (ap (λ (h : HeapView). h.failed) refused.0, (p, [], step_print s n v, (p.1, refl), refused.1 ∙ sym (append-nil old)))
+print_steps s n v (Err Failed) old new before after stands text kept refused failed no_fault =
+    let bad : true ≡ false = sym (failed refl) ∙ stands.0 in absurd (cc)

@@ -1,0 +1,150 @@
+// The engine: a heap and the commands that are performed on it.
+ghost use Rattle.std.specs.Prelude.{◌≡◌, ◌≢◌, ◌↔◌, ◌<◌, ◌≤◌, ◌++◌, true, Err, IfOk, OnOk, OnErr, if◌then◌else◌};
+ghost use Rattle.trace_types.specs.States.{State, opening, operand_value};
+ghost use Rattle.trace_types.specs.Printing.{print_text};
+ghost use Rattle.plain_heap.specs.Plain.{Stands};
+ghost use Rattle.replay.specs.Engine.{Steps};
+ghost use Rattle.replay.specs.Words.{IsInRange};
+
+use gc_io::Gate;
+use plain_heap::{Heap, HeapError, print_value};
+use std::alloc::{AllocError, Global};
+use std::marker::Model;
+use std::thread::Threads;
+use trace_types::{Command, Fault, Limits, Operand};
+
+/// A heap and the commands that are performed on it, line by line.
+#[derive(Drop)]
+pub struct Engine {
+    heap: Heap,
+    newest: u32,
+}
+
+impl Model for Engine {
+    ghost use Rattle.std.specs.Prelude.{◌≤◌};
+    ghost use Rattle.replay.specs.Engine.{EngineView};
+
+    ghost Value = { EngineView };
+
+    ghost view = { λ e. record { heap = e.heap; newest = e.newest } };
+
+    ghost invariant = { λ e. e.heap.last ≤ e.newest };
+}
+
+impl Engine {
+    /// An engine over an empty heap, which has performed no line.
+    pub fn new(alloc: Global, limits: Limits) -> Result<Engine, AllocError>
+        requires { IsInRange limits }
+        ensures opening { IfOk result (λ e. Stands e.heap (opening limits.generations)) }
+        ensures newest { IfOk result (λ e. e.newest ≡ 0) }
+    {
+        let heap = Heap::new(alloc, limits.generations)?;
+        Ok(Engine { heap, newest: 0 })
+    }
+
+    /// The heap.
+    pub fn heap(&self) -> &Heap
+        ensures { result.now ≡ self.now.heap }
+    {
+        &self.heap
+    }
+
+    /// The heap, where no more commands are to come.
+    pub fn into_heap(self) -> Heap
+        ensures { result ≡ self.heap }
+    {
+        let Engine { heap, newest: _ } = self;
+        heap
+    }
+
+    /// Performs the command of a line, and appends the text that it prints.
+    ///
+    /// A fault leaves the heap and the text as they were. Where memory runs out, the heap has failed, and a front of the
+    /// command's text may have been appended. A command that isn't built yet has the fault `UnknownCommand`.
+    pub fn step<R: Threads + Sync, G: Gate>(
+        &mut self,
+        _rt: &R,
+        line: u32,
+        command: &Command,
+        text: &mut Vec<u8>,
+        _gate: &G,
+    ) -> Result<(), HeapError>
+        requires newer { self.old.newest < line }
+        requires line { line ≤ 1073741823 }
+        ensures step { (s : State) → Stands self.old.heap s → Steps s line command.now result text.old.items text.new.items self.new.heap }
+        ensures failed { (result ≡ Err HeapError.Failed) ↔ (self.old.heap.failed ≡ true) }
+        ensures newest { self.new.newest ≡ line }
+    {
+        self.newest = line;
+        match command {
+            Command::Cons { d, car, cdr } => self.heap.cons(line, *d, *car, *cdr),
+            Command::Print { value } => print_graph(&mut self.heap, *value, text),
+            _ => unbuilt(&self.heap),
+        }
+    }
+}
+
+// The answer of a command that isn't built.
+fn unbuilt(heap: &Heap) -> Result<(), HeapError>
+    ensures { result ≡ Err (if heap.now.failed then HeapError.Failed else HeapError.Fault Fault.UnknownCommand) }
+{
+    if heap.failed() {
+        Err(HeapError::Failed)
+    } else {
+        Err(HeapError::Fault(Fault::UnknownCommand))
+    }
+}
+
+// Appends the printed graph of the value. Refused, nothing was appended, and the heap has failed.
+fn print_graph(heap: &mut Heap, value: Operand, text: &mut Vec<u8>) -> Result<(), HeapError>
+    ensures text { OnOk result ((s : State) → Stands heap.old s → text.new.items ≡ text.old.items ++ print_text s.graph (operand_value s value)) }
+    ensures kept { OnOk result (heap.new ≡ heap.old) }
+    ensures refused { OnErr result ((heap.new ≡ record heap.old { failed = true }) × (text.new.items ≡ text.old.items)) }
+    ensures failed { (result ≡ Err HeapError.Failed) ↔ (heap.old.failed ≡ true) }
+    ensures no_fault { (f : Fault) → result ≢ Err (HeapError.Fault f) }
+{
+    let alloc = *text.allocator();
+    match print_value(alloc, heap, value, text) {
+        Ok(()) => Ok(()),
+        Err(error) => {
+            heap.fail();
+            Err(error)
+        }
+    }
+}
+
+#[cfg(test)]
+mod tests {
+    use super::*;
+    use gc_io::OpenGate;
+    use std::test::Fail;
+    use trace_types::Register;
+
+    #[test]
+    fn performs_what_is_built(rt: HostRuntime) -> Result<(), Fail> {
+        let limits = Limits {
+            sweepers: 1,
+            generations: 3,
+            max_lines: 10,
+        };
+        let mut engine = Engine::new(rt.alloc(), limits)?;
+        let d = Register::new(4095).ok_or("no register")?;
+        let mut text = Vec::new(rt.alloc());
+        let made = Command::Cons {
+            d,
+            car: Operand::Fixnum(-1),
+            cdr: Operand::False,
+        };
+        assert_eq!(rt; engine.step(&rt, 2, &made, &mut text, &OpenGate), Ok(()));
+        let printed = Command::Print {
+            value: Operand::Reg(d),
+        };
+        assert_eq!(rt; engine.step(&rt, 3, &printed, &mut text, &OpenGate), Ok(()));
+        assert_eq!(rt; text.as_slice(), b"= #0\n#0 pair g0 t0 -1 f\n".as_slice());
+        let refused = engine.step(&rt, 4, &Command::Census, &mut text, &OpenGate);
+        assert_eq!(rt; refused, Err(HeapError::Fault(Fault::UnknownCommand)));
+        assert!(rt; !engine.heap().failed());
+        assert!(rt; !engine.into_heap().failed());
+        Ok(())
+    }
+}
