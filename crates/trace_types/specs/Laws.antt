@@ -1,0 +1,90 @@
+-- What the laws of these definitions say. Each is the contract of a public function that does nothing.
+use Rattle.std.specs.Prelude.{◌≡◌, ℕ, ◌+◌, ◌≤◌, ◌<◌, List, ◌∷◌, ◌++◌, length, map, flat_map, sum_by, IsTrue, Ok}
+use Rattle.trace_types.specs.declared.command.Command.{Command}
+use Rattle.trace_types.specs.Values.{Graph, objects_in}
+use Rattle.trace_types.specs.States.{State, opening, locked}
+use Rattle.trace_types.specs.Rules.{Rule, has, ◌⊆◌, least, MeetsAll, IsAmong}
+use Rattle.trace_types.specs.Kept.{older, accessible, accessible_or_served, waited_for, kept}
+use Rattle.trace_types.specs.Closed.{IsClosed}
+use Rattle.trace_types.specs.WellFormed.{IsWellFormed, IsNext, operands_fit, greatest_line}
+use Rattle.trace_types.specs.Collections.{Arguments, are_allowed, collect}
+use Rattle.trace_types.specs.Printing.{census, words_of}
+use Rattle.trace_types.specs.Steps.{step}
+
+-- ---- least sets
+
+-- the least set meets each rule, and is in each set that does
+pub record IsLeast (rules : List Rule) (set : List ℕ) : Type 0 where
+  pub meets_each : MeetsAll set rules
+  pub below_each : (other : List ℕ) → MeetsAll other rules → set ⊆ other
+
+abbrev pub LeastIsLeast : Type 0
+LeastIsLeast = (rules : List Rule) → IsLeast rules (least rules)
+
+-- More rules, more objects. So the least set depends on its rules as a set.
+abbrev pub LeastGrows : Type 0
+LeastGrows = (rules others : List Rule) → IsAmong rules others → least rules ⊆ least others
+
+-- the rules with other names for the objects
+abbrev pub renamed : (ℕ → ℕ) → List Rule → List Rule
+renamed name rules = map (λ (r : Rule). record { premises = map name r.premises; conclusion = name r.conclusion }) rules
+
+abbrev pub mentioned : List Rule → List ℕ
+mentioned rules = flat_map (λ r. r.conclusion ∷ r.premises) rules
+
+-- no two objects of the set get one name
+abbrev pub KeepsApart : (ℕ → ℕ) → List ℕ → Type 0
+KeepsApart name set = (x y : ℕ) → IsTrue (has set x) → IsTrue (has set y) → name x ≡ name y → x ≡ y
+
+-- other names for the objects of the rules are other names for the objects of the least set
+abbrev pub LeastIsRenamed : Type 0
+LeastIsRenamed = (name : ℕ → ℕ) (rules : List Rule) → KeepsApart name (mentioned rules) → least (renamed name rules) ≡ map name (least rules)
+
+-- ---- a collection
+
+-- A is the least closed set that holds the objects in registers, the locked objects and the older ones
+pub record IsAccessible (s : State) (cg : ℕ) (set : List ℕ) : Type 0 where
+  pub closed : IsClosed s set
+  pub roots : (objects_in s.registers ++ locked s ++ older s cg) ⊆ set
+  pub below_each : (other : List ℕ) → IsClosed s other → (objects_in s.registers ++ locked s ++ older s cg) ⊆ other → set ⊆ other
+
+abbrev pub AccessibleIsLeastClosed : Type 0
+AccessibleIsLeastClosed = (s : State) (cg : ℕ) → IsWellFormed s → IsAccessible s cg (accessible s cg)
+
+-- A is in L, L in W, and W in K
+pub record PhasesGrow (s : State) (cg : ℕ) : Type 0 where
+  pub served : accessible s cg ⊆ accessible_or_served s cg
+  pub waited : accessible_or_served s cg ⊆ waited_for s cg
+  pub kept : waited_for s cg ⊆ kept s cg
+
+abbrev pub EachPhaseGrows : Type 0
+EachPhaseGrows = (s : State) (cg : ℕ) → PhasesGrow s cg
+
+-- ---- well-formed states
+
+abbrev pub OpeningIsWellFormed : Type 0
+OpeningIsWellFormed = (oldest : ℕ) → 1 ≤ oldest → oldest ≤ 7 → IsWellFormed (opening oldest)
+
+abbrev pub CollectKeepsWellFormed : Type 0
+CollectKeepsWellFormed = (s : State) (a : Arguments) → IsWellFormed s → IsTrue (are_allowed s.version s.oldest a) → IsWellFormed (collect s a)
+
+abbrev pub StepKeepsWellFormed : Type 0
+StepKeepsWellFormed =
+    (s s' : State) (line : ℕ) (c : Command) (text : List ℕ) → IsWellFormed s → IsNext s line → IsTrue (operands_fit c)
+    → step s line c ≡ Ok (s', text) → IsWellFormed s'
+
+-- after a line the next line comes after every birth and line of the state
+abbrev pub StepLeavesNext : Type 0
+StepLeavesNext =
+    (s s' : State) (line : ℕ) (c : Command) (text : List ℕ) → IsWellFormed s → IsNext s line → line < greatest_line → IsTrue (operands_fit c)
+    → step s line c ≡ Ok (s', text) → IsNext s' (line + 1)
+
+-- ---- the census
+
+-- the census counts each object once, and its words
+pub record AddsUp (graph : Graph) : Type 0 where
+  pub objects : sum_by (λ counts. counts.0) (census graph) ≡ length graph
+  pub words : sum_by (λ counts. counts.1) (census graph) ≡ words_of graph
+
+abbrev pub CensusAddsUp : Type 0
+CensusAddsUp = (s : State) → IsWellFormed s → AddsUp s.graph
