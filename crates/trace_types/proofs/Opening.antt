@@ -1,12 +1,12 @@
 -- The state in which a trace begins is well formed, and each line leaves room for the next one.
-use Rattle.std.proofs.Common.{◌≡◌, ℕ, zero, suc, ◌+◌, ◌≤◌, ◌<◌, List, [], flat_map, replicate, IsTrue, refl, arith, Ok}
+use Rattle.std.proofs.Common.{◌≡◌, ℕ, zero, suc, ◌+◌, ◌≤◌, List, [], flat_map, replicate, IsTrue, refl, arith, Ok}
 use Rattle.std.proofs.lemmas.List.{length-replicate}
 use Rattle.std.proofs.lemmas.List.Elements.{All-from_recursion}
 use Rattle.trace_types.specs.declared.command.Command.{Command}
 use Rattle.trace_types.specs.Values.{nil, is_value, objects_in}
 use Rattle.trace_types.specs.States.{State, opening, empty}
 use Rattle.trace_types.specs.Rules.{◌⊆◌}
-use Rattle.trace_types.specs.WellFormed.{IsWellFormed, IsWellFormedTo, IsNext, operands_fit, greatest_line, noted}
+use Rattle.trace_types.specs.WellFormed.{IsWellFormed, IsWellFormedTo, IsNext, operands_fit, AllBefore, noted}
 use Rattle.trace_types.specs.Steps.{step}
 use Rattle.trace_types.proofs.Named.{names_whole}
 use Rattle.trace_types.proofs.Ranges.{all_copies}
@@ -68,11 +68,9 @@ before_line s line well next = record {
   version = well.version;
 }
 
-pub step_leaves_next : (s s' : State) (line : ℕ) (c : Command) (text : List ℕ) → IsWellFormed s → IsNext s line → line < greatest_line → IsTrue (operands_fit c) → step s line c ≡ Ok (s', text) → IsNext s' (line + 1)
-step_leaves_next s s' line c text well next more fits e =
+-- after a command the next line comes after every birth and line of the state
+pub step_leaves_next : (s s' : State) (line : ℕ) (c : Command) (text : List ℕ) → IsWellFormed s → IsNext s line → IsTrue (operands_fit c) → step s line c ≡ Ok (s', text) → AllBefore s' (line + 1)
+step_leaves_next s s' line c text well next fits e n h =
     let after = step_well_formed line s s' line c text (before_line s line well next) next (omega arith) fits e in
-    record {
-      counted = omega arith;
-      bounded = omega arith;
-      above = λ n h. let range = after.in_range n h in let most = range.1 in omega arith;
-    }
+    let range = (after.in_range n h).1 in
+    omega arith

@@ -1,15 +1,18 @@
 -- What the laws of these definitions say. Each is the contract of a public function that does nothing.
-use Rattle.std.specs.Prelude.{◌≡◌, ℕ, ◌+◌, ◌≤◌, ◌<◌, List, ◌∷◌, ◌++◌, length, map, flat_map, sum_by, IsTrue, Ok}
+use Rattle.std.specs.Prelude.{◌≡◌, ℕ, ◌+◌, ◌≤◌, List, ◌∷◌, ◌++◌, length, map, flat_map, sum_by, IsTrue, Some, Ok}
 use Rattle.trace_types.specs.declared.command.Command.{Command}
 use Rattle.trace_types.specs.Values.{Graph, objects_in}
 use Rattle.trace_types.specs.States.{State, opening, locked}
 use Rattle.trace_types.specs.Rules.{Rule, has, ◌⊆◌, least, MeetsAll, IsAmong}
 use Rattle.trace_types.specs.Kept.{older, accessible, accessible_or_served, waited_for, kept}
 use Rattle.trace_types.specs.Closed.{IsClosed}
-use Rattle.trace_types.specs.WellFormed.{IsWellFormed, IsNext, operands_fit, greatest_line}
+use Rattle.trace_types.specs.WellFormed.{IsWellFormed, IsNext, AllBefore, operands_fit, greatest_line}
 use Rattle.trace_types.specs.Collections.{Arguments, are_allowed, collect}
 use Rattle.trace_types.specs.Printing.{census, words_of}
 use Rattle.trace_types.specs.Steps.{step}
+use Rattle.trace_types.specs.Reading.{read}
+use Rattle.trace_types.specs.Runs.{run}
+use Rattle.trace_types.specs.declared.limits.Limits.{Limits}
 
 -- ---- least sets
 
@@ -76,8 +79,18 @@ StepKeepsWellFormed =
 -- after a line the next line comes after every birth and line of the state
 abbrev pub StepLeavesNext : Type 0
 StepLeavesNext =
-    (s s' : State) (line : ℕ) (c : Command) (text : List ℕ) → IsWellFormed s → IsNext s line → line < greatest_line → IsTrue (operands_fit c)
-    → step s line c ≡ Ok (s', text) → IsNext s' (line + 1)
+    (s s' : State) (line : ℕ) (c : Command) (text : List ℕ) → IsWellFormed s → IsNext s line → IsTrue (operands_fit c)
+    → step s line c ≡ Ok (s', text) → AllBefore s' (line + 1)
+
+-- a command that is read has operands without a fault of their own
+abbrev pub ReadFits : Type 0
+ReadFits = (line : List ℕ) (c : Command) → read line ≡ Ok (Some c) → IsTrue (operands_fit c)
+
+-- the state of a run is well formed
+abbrev pub RunIsWellFormed : Type 0
+RunIsWellFormed =
+    (limits : Limits) (bytes : List ℕ) → 1 ≤ limits.generations → limits.generations ≤ 7 → limits.max_lines ≤ greatest_line
+    → IsWellFormed (run step limits bytes).state
 
 -- ---- the census
 

@@ -3,7 +3,7 @@
 ghost use Rattle.trace_types.specs.Laws.{LeastIsLeast, LeastGrows, LeastIsRenamed};
 ghost use Rattle.trace_types.specs.Laws.{AccessibleIsLeastClosed, EachPhaseGrows};
 ghost use Rattle.trace_types.specs.Laws.{OpeningIsWellFormed, CollectKeepsWellFormed};
-ghost use Rattle.trace_types.specs.Laws.{StepKeepsWellFormed, StepLeavesNext, CensusAddsUp};
+ghost use Rattle.trace_types.specs.Laws.{StepKeepsWellFormed, StepLeavesNext, ReadFits, RunIsWellFormed, CensusAddsUp};
 ghost use Rattle.trace_types.specs.Rows.{Hold};
 ghost use Rattle.trace_types.specs.worked.Weak.{weak_rows};
 ghost use Rattle.trace_types.specs.worked.Guardians.{guardian_rows};
@@ -35,6 +35,8 @@ pub fn well_formed_states()
     ensures collect { CollectKeepsWellFormed }
     ensures step { StepKeepsWellFormed }
     ensures next { StepLeavesNext }
+    ensures read { ReadFits }
+    ensures run { RunIsWellFormed }
     ensures census { CensusAddsUp }
 {}
 
