@@ -16,13 +16,13 @@ abbrev size_in : ℕ × Object → ℕ
 size_in entry = size_of entry.1.kind entry.1.fields
 
 -- the words of one more object
-words-more : (e : ℕ × Object) (g : Graph) → words_of (e ∷ g) ≡ size_in e + words_of g
+pub words-more : (e : ℕ × Object) (g : Graph) → words_of (e ∷ g) ≡ size_in e + words_of g
 words-more e g = sum_by-append size_in (e ∷ []) g ∙ grind (arith)
 
-objects-more : (k : ℕ) (e : ℕ × Object) (g : Graph) → length (of_generation k (e ∷ g)) ≡ one_if (e.1.generation == k) + length (of_generation k g)
+pub objects-more : (k : ℕ) (e : ℕ × Object) (g : Graph) → length (of_generation k (e ∷ g)) ≡ one_if (e.1.generation == k) + length (of_generation k g)
 objects-more k e g = elim (e.1.generation == k) as (λ b. length (cond b (e ∷ of_generation k g) (of_generation k g)) ≡ one_if b + length (of_generation k g)) [ true ↦ omega arith | false ↦ omega arith ]
 
-words-of-generation : (k : ℕ) (e : ℕ × Object) (g : Graph) → words_of (of_generation k (e ∷ g)) ≡ cond (e.1.generation == k) (size_in e) 0 + words_of (of_generation k g)
+pub words-of-generation : (k : ℕ) (e : ℕ × Object) (g : Graph) → words_of (of_generation k (e ∷ g)) ≡ cond (e.1.generation == k) (size_in e) 0 + words_of (of_generation k g)
 words-of-generation k e g = elim (e.1.generation == k) as (λ b. words_of (cond b (e ∷ of_generation k g) (of_generation k g)) ≡ cond b (size_in e) 0 + words_of (of_generation k g)) [ true ↦ words-more e (of_generation k g) | false ↦ omega arith ]
 
 -- what is in one of the generations 0 to 8 counts once

@@ -191,18 +191,86 @@ one_register_gives make h = one_gives Any Any Any register register register any
 grammar_gives : AllByRecursion IsSound grammar
 grammar_gives = (
   one_gives (λ t. t ≤ 63) Any Any thread register register (λ f. numeral_gives 63 _ f) _ (λ t h. le-leb t 63 h),
-  (values_give _ (λ d a b h. h), (values_give _ (λ d a b h. h), (values_give _ (λ d a b h. h), (register_value_gives _ (λ d a h. h),
-  (counted_value_gives _ (λ d n a h. h), (counted_byte_gives _ (λ d n b h. le-leb b 255 h), (counted_value_gives _ (λ d n a h. h), (counted_byte_gives _ (λ d n b h. le-leb b 255 h),
-  (one_register_gives _ (λ d. refl), (one_register_gives _ (λ d. refl), (registration_gives,
-  (two_give Any Any Any register register register any_register any_register _ (λ d g _ _. refl),
-  (three_give Any Any Any register register count any_register any_register any_count _ (λ d s i _ _ _. refl),
-  (counted_value_gives _ (λ d n a h. h), (register_value_gives _ (λ d a h. h),
-  (one_value_gives _ (λ a h. h), (one_value_gives _ (λ a h. h),
-  (two_give Any Any Any byte register register (λ f. anything (byte f)) any_register _ (λ k r _ _. refl),
-  (two_give Any Any Any byte register register (λ f. anything (byte f)) any_register _ (λ k r _ _. refl),
-  (collection_gives, (one_value_gives _ (λ a h. h), (nothing_gives _ refl, (one_value_gives _ (λ a h. h), (version_gives, (table_put_gives,
-  (three_give Any Any Fits register register value any_register any_register value_gives _ (λ d t k _ _ h. h),
-  (register_value_gives _ (λ d a h. h), (register_value_gives _ (λ d a h. h), (one_register_gives _ (λ d. refl), tt))))))))))))))))))))))))))))))
+  (
+    values_give _ (λ d a b h. h),
+    (
+      values_give _ (λ d a b h. h),
+      (
+        values_give _ (λ d a b h. h),
+        (
+          register_value_gives _ (λ d a h. h),
+          (
+            counted_value_gives _ (λ d n a h. h),
+            (
+              counted_byte_gives _ (λ d n b h. le-leb b 255 h),
+              (
+                counted_value_gives _ (λ d n a h. h),
+                (
+                  counted_byte_gives _ (λ d n b h. le-leb b 255 h),
+                  (
+                    one_register_gives _ (λ d. refl),
+                    (
+                      one_register_gives _ (λ d. refl),
+                      (
+                        registration_gives,
+                        (
+                          two_give Any Any Any register register register any_register any_register _ (λ d g _ _. refl),
+                          (
+                            three_give Any Any Any register register count any_register any_register any_count _ (λ d s i _ _ _. refl),
+                            (
+                              counted_value_gives _ (λ d n a h. h),
+                              (
+                                register_value_gives _ (λ d a h. h),
+                                (
+                                  one_value_gives _ (λ a h. h),
+                                  (
+                                    one_value_gives _ (λ a h. h),
+                                    (
+                                      two_give Any Any Any byte register register (λ f. anything (byte f)) any_register _ (λ k r _ _. refl),
+                                      (
+                                        two_give Any Any Any byte register register (λ f. anything (byte f)) any_register _ (λ k r _ _. refl),
+                                        (
+                                          collection_gives,
+                                          (
+                                            one_value_gives _ (λ a h. h),
+                                            (
+                                              nothing_gives _ refl,
+                                              (
+                                                one_value_gives _ (λ a h. h),
+                                                (
+                                                  version_gives,
+                                                  (
+                                                    table_put_gives,
+                                                    (
+                                                      three_give Any Any Fits register register value any_register any_register value_gives _ (λ d t k _ _ h. h),
+                                                      (register_value_gives _ (λ d a h. h), (register_value_gives _ (λ d a h. h), (one_register_gives _ (λ d. refl), tt))),
+                                                    ),
+                                                  ),
+                                                ),
+                                              ),
+                                            ),
+                                          ),
+                                        ),
+                                      ),
+                                    ),
+                                  ),
+                                ),
+                              ),
+                            ),
+                          ),
+                        ),
+                      ),
+                    ),
+                  ),
+                ),
+              ),
+            ),
+          ),
+        ),
+      ),
+    ),
+  ),
+)
 
 command_gives : (parts : List (List ℕ)) → Gives IsReadable (command_in parts)
 command_gives [] = tt

@@ -1,14 +1,15 @@
 -- What the laws of these definitions say. Each is the contract of a public function that does nothing.
-use Rattle.std.specs.Prelude.{◌≡◌, ℕ, ◌+◌, ◌≤◌, List, ◌∷◌, ◌++◌, length, map, flat_map, sum_by, IsTrue, Some, Ok}
+use Rattle.std.specs.Prelude.{◌≡◌, ℕ, ◌+◌, ◌≤◌, ◌==◌, List, [], ◌∷◌, ◌++◌, length, map, flat_map, sum_by, IsTrue, Some, None, Ok, option_map, if◌then◌else◌}
+use Rattle.trace_types.specs.declared.kind.Kind.{Kind}
 use Rattle.trace_types.specs.declared.command.Command.{Command}
-use Rattle.trace_types.specs.Values.{Graph, objects_in}
-use Rattle.trace_types.specs.States.{State, opening, locked}
+use Rattle.trace_types.specs.Values.{Value, Object, Graph, objects_in, object_at, size_of}
+use Rattle.trace_types.specs.States.{State, opening, locked, with_object, with_field, new_object, with_new}
 use Rattle.trace_types.specs.Rules.{Rule, has, ◌⊆◌, least, MeetsAll, IsAmong}
 use Rattle.trace_types.specs.Kept.{older, accessible, accessible_or_served, waited_for, kept}
 use Rattle.trace_types.specs.Closed.{IsClosed}
 use Rattle.trace_types.specs.WellFormed.{IsWellFormed, IsNext, AllBefore, operands_fit, greatest_line}
-use Rattle.trace_types.specs.Collections.{Arguments, are_allowed, collect}
-use Rattle.trace_types.specs.Printing.{census, words_of}
+use Rattle.trace_types.specs.Collections.{Arguments, are_allowed, object_left, collect}
+use Rattle.trace_types.specs.Printing.{census, of_generation, words_of}
 use Rattle.trace_types.specs.Steps.{step}
 use Rattle.trace_types.specs.Reading.{read}
 use Rattle.trace_types.specs.Runs.{run}
@@ -101,3 +102,30 @@ pub record AddsUp (graph : Graph) : Type 0 where
 
 abbrev pub CensusAddsUp : Type 0
 CensusAddsUp = (s : State) → IsWellFormed s → AddsUp s.graph
+
+-- ---- graphs
+
+-- what is found after an object was put under a birth: it, and the others as they were
+abbrev pub PutIsFound : Type 0
+PutIsFound = (s : State) (birth q : ℕ) (o : Object) → object_at (with_object s birth o).graph q ≡ (if q == birth then Some o else object_at s.graph q)
+
+-- what is found after a collection: what is left of a kept object
+abbrev pub LeftIsFound : Type 0
+LeftIsFound =
+    (s : State) (a : Arguments) (q : ℕ)
+    → object_at (collect s a).graph q ≡ (if has (kept s a.cg) q then option_map (object_left s a q) (object_at s.graph q) else None)
+
+-- a new object is the last of the graph, and it counts in generation 0
+pub record NewCounts (s : State) (line d : ℕ) (kind : Kind) (fields : List Value) : Type 0 where
+  pub last : (with_new s line d kind fields).graph ≡ s.graph ++ (line, new_object s kind fields) ∷ []
+  pub objects : (g : ℕ) → length (of_generation g (with_new s line d kind fields).graph) ≡ length (of_generation g s.graph) + (if g == 0 then 1 else 0)
+  pub words : (g : ℕ) → words_of (of_generation g (with_new s line d kind fields).graph) ≡ words_of (of_generation g s.graph) + (if g == 0 then size_of kind fields else 0)
+
+abbrev pub EachNewCounts : Type 0
+EachNewCounts = (s : State) (line d : ℕ) (kind : Kind) (fields : List Value) → AllBefore s line → NewCounts s line d kind fields
+
+-- a change of a field changes no count
+abbrev pub FieldKeepsCensus : Type 0
+FieldKeepsCensus =
+    (s : State) (x index : ℕ) (o : Object) (v : Value) → IsWellFormed s → object_at s.graph x ≡ Some o
+    → census (with_field s x o index v).graph ≡ census s.graph

@@ -4,6 +4,7 @@ ghost use Rattle.trace_types.specs.Laws.{LeastIsLeast, LeastGrows, LeastIsRename
 ghost use Rattle.trace_types.specs.Laws.{AccessibleIsLeastClosed, EachPhaseGrows};
 ghost use Rattle.trace_types.specs.Laws.{OpeningIsWellFormed, CollectKeepsWellFormed};
 ghost use Rattle.trace_types.specs.Laws.{StepKeepsWellFormed, StepLeavesNext, ReadFits, RunIsWellFormed, CensusAddsUp};
+ghost use Rattle.trace_types.specs.Laws.{PutIsFound, LeftIsFound, EachNewCounts, FieldKeepsCensus};
 ghost use Rattle.trace_types.specs.Rows.{Hold};
 ghost use Rattle.trace_types.specs.worked.Weak.{weak_rows};
 ghost use Rattle.trace_types.specs.worked.Guardians.{guardian_rows};
@@ -13,6 +14,7 @@ ghost use Rattle.trace_types.specs.worked.Printing.{printing_rows};
 ghost use Rattle.trace_types.specs.worked.Tables.{table_rows};
 ghost use Rattle.trace_types.specs.worked.Refusals.{refusal_rows};
 ghost use Rattle.trace_types.specs.worked.Forms.{form_rows};
+ghost use Rattle.trace_types.specs.worked.Workloads.{workload_rows, DrawsFirst};
 
 /// What the least set of a list of rules is: it meets each rule and is in each set that does. It grows
 /// with the rules, and another name for each object is another name for each member.
@@ -40,6 +42,14 @@ pub fn well_formed_states()
     ensures census { CensusAddsUp }
 {}
 
+/// What a change of a graph leaves: what is found in it, and what its census counts.
+pub fn graphs()
+    ensures put { PutIsFound }
+    ensures collected { LeftIsFound }
+    ensures made { EachNewCounts }
+    ensures set { FieldKeepsCensus }
+{}
+
 /// The worked rows: each trace prints and ends as its row says.
 pub fn worked_rows()
     ensures weak { Hold weak_rows }
@@ -50,4 +60,6 @@ pub fn worked_rows()
     ensures tables { Hold table_rows }
     ensures refusals { Hold refusal_rows }
     ensures forms { Hold form_rows }
+    ensures workloads { Hold workload_rows }
+    ensures drawn { DrawsFirst }
 {}

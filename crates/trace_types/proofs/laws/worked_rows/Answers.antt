@@ -6,6 +6,7 @@ use Rattle.trace_types.proofs.worked.Printing
 use Rattle.trace_types.proofs.worked.Tables
 use Rattle.trace_types.proofs.worked.Refusals
 use Rattle.trace_types.proofs.worked.Forms
+use Rattle.trace_types.proofs.worked.Workloads
 use Rattle.trace_types.proofs.laws.worked_rows.Goals as goal
 
 pub returns-clause-weak : goal.returns-clause-weak
@@ -31,3 +32,9 @@ returns-clause-refusals c = Refusals.hold
 
 pub returns-clause-forms : goal.returns-clause-forms
 returns-clause-forms c = Forms.hold
+
+pub returns-clause-workloads : goal.returns-clause-workloads
+returns-clause-workloads c = Workloads.hold
+
+pub returns-clause-drawn : goal.returns-clause-drawn
+returns-clause-drawn c = Workloads.draws_first
