@@ -11,10 +11,12 @@ use Rattle.std.proofs.lemmas.Bool.{and_parts, and_from, or_right, or_cases, eq-e
 use Rattle.std.proofs.lemmas.List.Elements.{All-from_recursion, recursion_from_All}
 use Rattle.trace_types.specs.Values.{Value, fixnum, nil, true_value, false_value, bwp, object, objects_in, Object, object_at, is_ephemeron, strong_references, strong_values, object_in, key_of, value_of}
 use Rattle.trace_types.specs.States.{State, Registration}
-use Rattle.trace_types.specs.Rules.{Rule, has, ◌⊆◌, meets, MeetsAll}
-use Rattle.trace_types.specs.Kept.{rules_to, strong_rules, ephemeron_rules, object_rules, registration_rules, rules}
+use Rattle.trace_types.specs.Rules.{Rule, has, ◌⊆◌, meets, MeetsAll, least}
+use Rattle.trace_types.specs.Kept.{rules_to, strong_rules, ephemeron_rules, object_rules, registration_rules, rules, roots, accessible}
 use Rattle.trace_types.specs.Closed.{IsIn, IsClosed}
-use Rattle.trace_types.proofs.Least.{meets_use, meets_from, each_weaker, MeetsAll-append, has_all_from, has_all_at}
+use Rattle.trace_types.specs.WellFormed.{IsWellFormed}
+use Rattle.trace_types.specs.Laws.{IsAccessible}
+use Rattle.trace_types.proofs.Least.{meets_use, meets_from, each_weaker, MeetsAll-append, has_all_from, has_all_at, least_meets, least_below, facts_there, facts_met}
 
 abbrev Met : List ℕ → List Rule → Type 0
 Met set rs = AllByRecursion (λ r. IsTrue (meets set r)) rs
@@ -178,3 +180,13 @@ closed_met s set ordered closed =
           in_use set r.representative (h both.0 (in_from set r.object (has_all_at set (objects_in (r.object ∷ [])) both.1)))))
           s.registrations (recursion_from_All (Represents set) s.registrations closed.registrations))),
     )
+
+-- A is the least closed set with the roots
+pub accessible_is_least : (s : State) (cg : ℕ) → IsWellFormed s → IsAccessible s cg (accessible s cg)
+unfolding accessible
+accessible_is_least s cg well = record {
+  closed = met_closed s (least (rules s ++ roots s cg)) ((MeetsAll-append (rules s) (roots s cg) _).0 (least_meets (rules s ++ roots s cg))).0;
+  roots = facts_there _ _ ((MeetsAll-append (rules s) (roots s cg) _).0 (least_meets (rules s ++ roots s cg))).1;
+  below_each = λ other closed rooted. least_below (rules s ++ roots s cg) other
+      ((MeetsAll-append (rules s) (roots s cg) other).1 (closed_met s other well.ordered closed, facts_met _ other rooted));
+}

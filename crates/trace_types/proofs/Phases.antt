@@ -4,6 +4,7 @@ use Rattle.trace_types.specs.States.{State, locked}
 use Rattle.trace_types.specs.Values.{objects_in}
 use Rattle.trace_types.specs.Rules.{Rule, ◌⊆◌, least, MeetsAll, facts}
 use Rattle.trace_types.specs.Kept.{rules, roots, served, as_though, ready, unready_rules, older, accessible, accessible_or_served, waited_for, kept}
+use Rattle.trace_types.specs.Laws.{PhasesGrow}
 use Rattle.trace_types.proofs.Least.{least_among, least_meets, least_below, IsAmong-left, MeetsAll-append, facts_there, facts_met}
 
 pub accessible_then_served : (s : State) (cg : ℕ) → accessible s cg ⊆ accessible_or_served s cg
@@ -65,3 +66,11 @@ accessible_kept s cg x h = (kept_meets s cg).waited x (served_then_waited s cg x
 pub roots_accessible : (s : State) (cg : ℕ) → (objects_in s.registers ++ locked s ++ older s cg) ⊆ accessible s cg
 unfolding accessible
 roots_accessible s cg = facts_there _ (least (rules s ++ roots s cg)) ((MeetsAll-append (rules s) (roots s cg) _).0 (least_meets (rules s ++ roots s cg))).1
+
+-- each phase has the one before it
+pub phases_grow : (s : State) (cg : ℕ) → PhasesGrow s cg
+phases_grow s cg = record {
+  served = accessible_then_served s cg;
+  waited = served_then_waited s cg;
+  kept = (kept_meets s cg).waited;
+}

@@ -24,7 +24,7 @@ use Rattle.trace_types.specs.Tables.{entry_kind, is_table, is_entry, has_key, ho
 use Rattle.trace_types.specs.WellFormed.{IsWellFormedTo, IsNext, IsObject, operand_fits, representative_fits, operands_fit, births, is_generation, has_its_fields, fields_fit}
 use Rattle.trace_types.proofs.Named.{append_sub, objects_left, objects_right, objects_both}
 use Rattle.trace_types.proofs.Collecting.{collect_well_formed}
-use Rattle.trace_types.proofs.Stepping.{register_well_formed, births_below, new_birth, births_put}
+use Rattle.trace_types.proofs.Stepping.{register_well_formed, births_before, new_birth, births_put}
 use Rattle.trace_types.proofs.Graphs.{object_at-put}
 use Rattle.trace_types.proofs.Meeting.{each_found}
 use Rattle.trace_types.proofs.Least.{each_weaker}
@@ -279,7 +279,7 @@ module _ (last : ℕ) (s : State) (well : IsWellFormedTo last s) where
   -- an object that was there is there beside a new one
   still_found : (line : ℕ) (new : Object) (x : ℕ) (o : Object) → IsNext s line → object_at s.graph x ≡ Some o → object_at (put nat_cmp line new s.graph) x ≡ Some o
   still_found line new x o next found =
-      let below = ltb-true x line (each_found (λ y q. IsTrue (nat_lt y line)) s.graph (births_below s line next) x o found) in
+      let below = ltb-true x line (each_found (λ y q. IsTrue (nat_lt y line)) s.graph (births_before s line next.above) x o found) in
       object_at-put s.graph line new x ∙ cond-false (x == line) (Some new) (object_at s.graph x) (ne_eqb x line (λ same. omega arith)) ∙ found
 
   put_kept : (line d x : ℕ) (table : Object) (mode : Mode) (key v : Value) (free : Option ℕ) → IsNext s line → line ≤ last → object_at s.graph x ≡ Some table → IsTrue (is_table table.kind)

@@ -14,7 +14,7 @@ use Rattle.trace_types.specs.Values.{Value, is_value, objects_in, Object, object
 use Rattle.trace_types.specs.States.{State, Registration, with_register, with_object, locked}
 use Rattle.trace_types.specs.Rules.{has, ◌⊆◌}
 use Rattle.trace_types.specs.Kept.{is_of_kind}
-use Rattle.trace_types.specs.WellFormed.{fields_fit, registration_lines, IsObject, IsWellFormedTo, IsNext, has_its_fields, occurrences, numbers, births, named, noted, named_by_object, named_by_registration}
+use Rattle.trace_types.specs.WellFormed.{AllBefore, fields_fit, registration_lines, IsObject, IsWellFormedTo, IsNext, has_its_fields, occurrences, numbers, births, named, noted, named_by_object, named_by_registration}
 use Rattle.trace_types.proofs.Least.{each_weaker, list_all_from_each}
 use Rattle.trace_types.proofs.Meeting.{each_found, each_append}
 use Rattle.trace_types.proofs.Graphs.{put_last, object_at-put, find_first}
@@ -80,13 +80,13 @@ none_above s line next n h =
       | inr none ↦ let no_more = ltb-false 0 (occurrences n (numbers s)) none in omega (arith, no_more)
     ]
 
-pub births_below : (s : State) (line : ℕ) → IsNext s line → AllByRecursion (λ e. IsTrue (nat_lt e.0 line)) s.graph
-births_below s line next =
+pub births_before : (s : State) (line : ℕ) → AllBefore s line → AllByRecursion (λ e. IsTrue (nat_lt e.0 line)) s.graph
+births_before s line before =
     each_weaker (λ e. 1 ≤ occurrences e.0 (map first s.graph)) (λ e. IsTrue (nat_lt e.0 line))
     (λ e once.
     let parts = occurrences-append e.0 (births s ++ registration_lines s) (flat_map queue_lines s.graph) in
     let births_part = occurrences-append e.0 (births s) (registration_lines s) in
-    lt-ltb e.0 line (next.above e.0 (omega (arith, once, parts, births_part)))) s.graph (born_once s.graph)
+    lt-ltb e.0 line (before e.0 (omega (arith, once, parts, births_part)))) s.graph (born_once s.graph)
 
 module _ (last : ℕ) (s : State) (line : ℕ) (kind : Kind) (fields : List Value) (well : IsWellFormedTo last s) (next : IsNext s line) (within : line ≤ last) (shape : IsTrue (has_its_fields kind fields)) (fits : IsTrue (fields_fit kind fields)) (there : objects_in fields ⊆ births s) where
   abbrev pub made : Object
@@ -96,7 +96,7 @@ module _ (last : ℕ) (s : State) (line : ℕ) (kind : Kind) (fields : List Valu
   grown = s.graph ++ (line, made) ∷ []
 
   above : IsTrue (list_all (λ e. nat_lt e.0 line) s.graph)
-  above = list_all_from_each (λ e. nat_lt e.0 line) s.graph (births_below s line next)
+  above = list_all_from_each (λ e. nat_lt e.0 line) s.graph (births_before s line next.above)
 
   put_is_last : put nat_cmp line made s.graph ≡ grown
   put_is_last = put_last s.graph line made above
@@ -138,7 +138,7 @@ module _ (last : ℕ) (s : State) (line : ℕ) (kind : Kind) (fields : List Valu
       by_found : (o : Option Object) → object_at s.graph r.guardian ≡ o → IsTrue (is_of_kind is_guardian o) → IsTrue (is_of_kind is_guardian (object_at (put nat_cmp line made s.graph) r.guardian))
       by_found None found is = absurd (false≢true is)
       by_found (Some o) found is =
-          let less = ltb-true r.guardian line (each_found (λ x q. IsTrue (nat_lt x line)) s.graph (births_below s line next) r.guardian o found) in
+          let less = ltb-true r.guardian line (each_found (λ x q. IsTrue (nat_lt x line)) s.graph (births_before s line next.above) r.guardian o found) in
           let apart : (r.guardian == line) ≡ false = ne_eqb r.guardian line (λ same. omega arith) in
           subst (λ q. IsTrue (is_of_kind is_guardian q)) (sym (object_at-put s.graph line made r.guardian ∙ cond-false (r.guardian == line) (Some made) (object_at s.graph r.guardian) apart ∙ found)) is
 
@@ -232,7 +232,7 @@ module _ (x : ℕ) (o' : Object) where
   each_below a (e ∷ g) h = let parts = and_parts (is_lt (nat_cmp a e.0)) (below_all nat_cmp a g) h in (less_from a e.0 parts.0, each_below a g parts.1)
 
   -- not below the first of the objects among which it is found
-  found_below : (e : ℕ × Object) (g : List (ℕ × Object)) (o : Object) → IsTrue (is_sorted nat_cmp (e ∷ g)) → object_at (e ∷ g) x ≡ Some o → nat_cmp x e.0 ≡ Less → ⊥
+  pub found_below : (e : ℕ × Object) (g : List (ℕ × Object)) (o : Object) → IsTrue (is_sorted nat_cmp (e ∷ g)) → object_at (e ∷ g) x ≡ Some o → nat_cmp x e.0 ≡ Less → ⊥
   found_below e g o ordered found less =
       let lt : x < e.0 = less_from x e.0 (ap is_lt less) in
       let parts = and_parts (below_all nat_cmp e.0 g) (is_sorted nat_cmp g) ordered in
@@ -242,7 +242,7 @@ module _ (x : ℕ) (o' : Object) where
       omega arith
 
   -- found behind the first, where it is above the first
-  found_later : (e : ℕ × Object) (g : List (ℕ × Object)) (o : Object) → object_at (e ∷ g) x ≡ Some o → nat_cmp x e.0 ≡ Greater → object_at g x ≡ Some o
+  pub found_later : (e : ℕ × Object) (g : List (ℕ × Object)) (o : Object) → object_at (e ∷ g) x ≡ Some o → nat_cmp x e.0 ≡ Greater → object_at g x ≡ Some o
   found_later e g o found greater =
       let apart : (x == e.0) ≡ false = ne_eqb x e.0 (λ same. not_tied (sym (ap is_eq (ap (λ y. nat_cmp y e.0) same ∙ tied e.0)) ∙ ap is_eq greater)) in
       sym (cond-false (x == e.0) (Some e.1) (object_at g x) apart) ∙ sym (find_first x e g) ∙ found

@@ -16,5 +16,6 @@ pub mod Reading
 pub mod Run
 pub mod Runs
 pub mod Workloads
+pub mod Laws
 pub mod Rows
 pub mod worked

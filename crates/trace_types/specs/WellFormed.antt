@@ -4,7 +4,7 @@ use Rattle.std.specs.List.{list_all}
 use Rattle.std.specs.FinMap.{is_sorted}
 use Rattle.std.specs.Ordering.{nat_cmp}
 use Rattle.trace_types.specs.declared.operand.Operand.{Operand}
-use Rattle.trace_types.specs.declared.operand.Operand.TheVariants.{Reg, Fixnum}
+use Rattle.trace_types.specs.declared.operand.Operand.TheVariants.{Fixnum}
 use Rattle.trace_types.specs.declared.command.Command.{Command}
 use Rattle.trace_types.specs.declared.command.Command.TheVariants as commands
 use Rattle.trace_types.specs.declared.kind.Kind.{Kind}
@@ -13,6 +13,7 @@ use Rattle.trace_types.specs.Values.{Value, is_fixnum, is_value, is_byte, object
 use Rattle.trace_types.specs.States.{State, Registration, Note, set_to, locked, static_generation}
 use Rattle.trace_types.specs.Rules.{◌⊆◌}
 use Rattle.trace_types.specs.Kept.{is_of_kind}
+use Rattle.trace_types.specs.Reading.{is_register}
 
 -- ---- what is named and numbered
 
@@ -111,11 +112,15 @@ pub record IsWellFormedTo (last : ℕ) (s : State) : Type 0 where
 abbrev pub IsWellFormed : State → Type 0
 IsWellFormed s = IsWellFormedTo greatest_line s
 
+-- every number of the state is below the line
+abbrev pub AllBefore : State → ℕ → Type 0
+AllBefore s line = (n : ℕ) → 1 ≤ occurrences n (numbers s) → n < line
+
 -- the line comes after every birth and line of the state
 pub record IsNext (s : State) (line : ℕ) : Type 0 where
   pub counted : 1 ≤ line
   pub bounded : line ≤ greatest_line
-  pub above : (n : ℕ) → 1 ≤ occurrences n (numbers s) → n < line
+  pub above : AllBefore s line
 
 -- ---- operands
 
@@ -127,11 +132,6 @@ operand_fits _ = true
 abbrev pub representative_fits : Option Operand → Bool
 representative_fits None = true
 representative_fits (Some operand) = operand_fits operand
-
--- whether the operand is the register
-abbrev pub is_register : ℕ → Operand → Bool
-is_register d (Reg r) = r == d
-is_register d _ = false
 
 -- Whether the operands of a command have no fault of their own. That registers, bytes and counts are in range is said
 -- by their types.

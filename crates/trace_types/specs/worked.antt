@@ -6,3 +6,4 @@ pub mod Printing
 pub mod Tables
 pub mod Refusals
 pub mod Forms
+pub mod Workloads

@@ -13,6 +13,7 @@
 mod command;
 mod fault;
 mod kind;
+pub mod laws;
 mod limits;
 mod operand;
 mod register;

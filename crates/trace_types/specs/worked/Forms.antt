@@ -11,7 +11,7 @@ form_rows =
     ∷ refused usual (codes "cons r4096 01 x x\n") [] 1 OperandCount
     -- refused as it stands: cons  r0 1
     ∷ refused usual (codes "cons  r0 1\n") [] 1 BadRegister
-    -- refused as it stands: census 
+    -- refused as it stands: census
     ∷ refused usual (codes "census \n") [] 1 OperandCount
     -- refused as it stands:  ;
     ∷ refused usual (codes " ;\n") [] 1 UnknownCommand

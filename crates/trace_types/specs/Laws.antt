@@ -1,0 +1,131 @@
+-- What the laws of these definitions say. Each is the contract of a public function that does nothing.
+use Rattle.std.specs.Prelude.{◌≡◌, ℕ, ◌+◌, ◌≤◌, ◌==◌, List, [], ◌∷◌, ◌++◌, length, map, flat_map, sum_by, IsTrue, Some, None, Ok, option_map, if◌then◌else◌}
+use Rattle.trace_types.specs.declared.kind.Kind.{Kind}
+use Rattle.trace_types.specs.declared.command.Command.{Command}
+use Rattle.trace_types.specs.Values.{Value, Object, Graph, objects_in, object_at, size_of}
+use Rattle.trace_types.specs.States.{State, opening, locked, with_object, with_field, new_object, with_new}
+use Rattle.trace_types.specs.Rules.{Rule, has, ◌⊆◌, least, MeetsAll, IsAmong}
+use Rattle.trace_types.specs.Kept.{older, accessible, accessible_or_served, waited_for, kept}
+use Rattle.trace_types.specs.Closed.{IsClosed}
+use Rattle.trace_types.specs.WellFormed.{IsWellFormed, IsNext, AllBefore, operands_fit, greatest_line}
+use Rattle.trace_types.specs.Collections.{Arguments, are_allowed, object_left, collect}
+use Rattle.trace_types.specs.Printing.{census, of_generation, words_of}
+use Rattle.trace_types.specs.Steps.{step}
+use Rattle.trace_types.specs.Reading.{read}
+use Rattle.trace_types.specs.Runs.{run}
+use Rattle.trace_types.specs.declared.limits.Limits.{Limits}
+
+-- ---- least sets
+
+-- the least set meets each rule, and is in each set that does
+pub record IsLeast (rules : List Rule) (set : List ℕ) : Type 0 where
+  pub meets_each : MeetsAll set rules
+  pub below_each : (other : List ℕ) → MeetsAll other rules → set ⊆ other
+
+abbrev pub LeastIsLeast : Type 0
+LeastIsLeast = (rules : List Rule) → IsLeast rules (least rules)
+
+-- More rules, more objects. So the least set depends on its rules as a set.
+abbrev pub LeastGrows : Type 0
+LeastGrows = (rules others : List Rule) → IsAmong rules others → least rules ⊆ least others
+
+-- the rules with other names for the objects
+abbrev pub renamed : (ℕ → ℕ) → List Rule → List Rule
+renamed name rules = map (λ (r : Rule). record { premises = map name r.premises; conclusion = name r.conclusion }) rules
+
+abbrev pub mentioned : List Rule → List ℕ
+mentioned rules = flat_map (λ r. r.conclusion ∷ r.premises) rules
+
+-- no two objects of the set get one name
+abbrev pub KeepsApart : (ℕ → ℕ) → List ℕ → Type 0
+KeepsApart name set = (x y : ℕ) → IsTrue (has set x) → IsTrue (has set y) → name x ≡ name y → x ≡ y
+
+-- other names for the objects of the rules are other names for the objects of the least set
+abbrev pub LeastIsRenamed : Type 0
+LeastIsRenamed = (name : ℕ → ℕ) (rules : List Rule) → KeepsApart name (mentioned rules) → least (renamed name rules) ≡ map name (least rules)
+
+-- ---- a collection
+
+-- A is the least closed set that holds the objects in registers, the locked objects and the older ones
+pub record IsAccessible (s : State) (cg : ℕ) (set : List ℕ) : Type 0 where
+  pub closed : IsClosed s set
+  pub roots : (objects_in s.registers ++ locked s ++ older s cg) ⊆ set
+  pub below_each : (other : List ℕ) → IsClosed s other → (objects_in s.registers ++ locked s ++ older s cg) ⊆ other → set ⊆ other
+
+abbrev pub AccessibleIsLeastClosed : Type 0
+AccessibleIsLeastClosed = (s : State) (cg : ℕ) → IsWellFormed s → IsAccessible s cg (accessible s cg)
+
+-- A is in L, L in W, and W in K
+pub record PhasesGrow (s : State) (cg : ℕ) : Type 0 where
+  pub served : accessible s cg ⊆ accessible_or_served s cg
+  pub waited : accessible_or_served s cg ⊆ waited_for s cg
+  pub kept : waited_for s cg ⊆ kept s cg
+
+abbrev pub EachPhaseGrows : Type 0
+EachPhaseGrows = (s : State) (cg : ℕ) → PhasesGrow s cg
+
+-- ---- well-formed states
+
+abbrev pub OpeningIsWellFormed : Type 0
+OpeningIsWellFormed = (oldest : ℕ) → 1 ≤ oldest → oldest ≤ 7 → IsWellFormed (opening oldest)
+
+abbrev pub CollectKeepsWellFormed : Type 0
+CollectKeepsWellFormed = (s : State) (a : Arguments) → IsWellFormed s → IsTrue (are_allowed s.version s.oldest a) → IsWellFormed (collect s a)
+
+abbrev pub StepKeepsWellFormed : Type 0
+StepKeepsWellFormed =
+    (s s' : State) (line : ℕ) (c : Command) (text : List ℕ) → IsWellFormed s → IsNext s line → IsTrue (operands_fit c)
+    → step s line c ≡ Ok (s', text) → IsWellFormed s'
+
+-- after a line the next line comes after every birth and line of the state
+abbrev pub StepLeavesNext : Type 0
+StepLeavesNext =
+    (s s' : State) (line : ℕ) (c : Command) (text : List ℕ) → IsWellFormed s → IsNext s line → IsTrue (operands_fit c)
+    → step s line c ≡ Ok (s', text) → AllBefore s' (line + 1)
+
+-- a command that is read has operands without a fault of their own
+abbrev pub ReadFits : Type 0
+ReadFits = (line : List ℕ) (c : Command) → read line ≡ Ok (Some c) → IsTrue (operands_fit c)
+
+-- the state of a run is well formed
+abbrev pub RunIsWellFormed : Type 0
+RunIsWellFormed =
+    (limits : Limits) (bytes : List ℕ) → 1 ≤ limits.generations → limits.generations ≤ 7 → limits.max_lines ≤ greatest_line
+    → IsWellFormed (run step limits bytes).state
+
+-- ---- the census
+
+-- the census counts each object once, and its words
+pub record AddsUp (graph : Graph) : Type 0 where
+  pub objects : sum_by (λ counts. counts.0) (census graph) ≡ length graph
+  pub words : sum_by (λ counts. counts.1) (census graph) ≡ words_of graph
+
+abbrev pub CensusAddsUp : Type 0
+CensusAddsUp = (s : State) → IsWellFormed s → AddsUp s.graph
+
+-- ---- graphs
+
+-- what is found after an object was put under a birth: it, and the others as they were
+abbrev pub PutIsFound : Type 0
+PutIsFound = (s : State) (birth q : ℕ) (o : Object) → object_at (with_object s birth o).graph q ≡ (if q == birth then Some o else object_at s.graph q)
+
+-- what is found after a collection: what is left of a kept object
+abbrev pub LeftIsFound : Type 0
+LeftIsFound =
+    (s : State) (a : Arguments) (q : ℕ)
+    → object_at (collect s a).graph q ≡ (if has (kept s a.cg) q then option_map (object_left s a q) (object_at s.graph q) else None)
+
+-- a new object is the last of the graph, and it counts in generation 0
+pub record NewCounts (s : State) (line d : ℕ) (kind : Kind) (fields : List Value) : Type 0 where
+  pub last : (with_new s line d kind fields).graph ≡ s.graph ++ (line, new_object s kind fields) ∷ []
+  pub objects : (g : ℕ) → length (of_generation g (with_new s line d kind fields).graph) ≡ length (of_generation g s.graph) + (if g == 0 then 1 else 0)
+  pub words : (g : ℕ) → words_of (of_generation g (with_new s line d kind fields).graph) ≡ words_of (of_generation g s.graph) + (if g == 0 then size_of kind fields else 0)
+
+abbrev pub EachNewCounts : Type 0
+EachNewCounts = (s : State) (line d : ℕ) (kind : Kind) (fields : List Value) → AllBefore s line → NewCounts s line d kind fields
+
+-- a change of a field changes no count
+abbrev pub FieldKeepsCensus : Type 0
+FieldKeepsCensus =
+    (s : State) (x index : ℕ) (o : Object) (v : Value) → IsWellFormed s → object_at s.graph x ≡ Some o
+    → census (with_field s x o index v).graph ≡ census s.graph

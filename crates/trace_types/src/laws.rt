@@ -1,0 +1,65 @@
+//! Laws of the definitions, each the contract of a function that does nothing.
+
+ghost use Rattle.trace_types.specs.Laws.{LeastIsLeast, LeastGrows, LeastIsRenamed};
+ghost use Rattle.trace_types.specs.Laws.{AccessibleIsLeastClosed, EachPhaseGrows};
+ghost use Rattle.trace_types.specs.Laws.{OpeningIsWellFormed, CollectKeepsWellFormed};
+ghost use Rattle.trace_types.specs.Laws.{StepKeepsWellFormed, StepLeavesNext, ReadFits, RunIsWellFormed, CensusAddsUp};
+ghost use Rattle.trace_types.specs.Laws.{PutIsFound, LeftIsFound, EachNewCounts, FieldKeepsCensus};
+ghost use Rattle.trace_types.specs.Rows.{Hold};
+ghost use Rattle.trace_types.specs.worked.Weak.{weak_rows};
+ghost use Rattle.trace_types.specs.worked.Guardians.{guardian_rows};
+ghost use Rattle.trace_types.specs.worked.Ordered.{ordered_rows};
+ghost use Rattle.trace_types.specs.worked.Moving.{moving_rows};
+ghost use Rattle.trace_types.specs.worked.Printing.{printing_rows};
+ghost use Rattle.trace_types.specs.worked.Tables.{table_rows};
+ghost use Rattle.trace_types.specs.worked.Refusals.{refusal_rows};
+ghost use Rattle.trace_types.specs.worked.Forms.{form_rows};
+ghost use Rattle.trace_types.specs.worked.Workloads.{workload_rows, DrawsFirst};
+
+/// What the least set of a list of rules is: it meets each rule and is in each set that does. It grows
+/// with the rules, and another name for each object is another name for each member.
+pub fn least_sets()
+    ensures least { LeastIsLeast }
+    ensures grows { LeastGrows }
+    ensures renamed { LeastIsRenamed }
+{}
+
+/// What a collection keeps: the accessible objects are the least closed set with the roots, and each
+/// further phase only adds to them.
+pub fn phases()
+    ensures accessible { AccessibleIsLeastClosed }
+    ensures grow { EachPhaseGrows }
+{}
+
+/// The state in which a trace begins is well formed, and commands and collections keep it so.
+pub fn well_formed_states()
+    ensures opening { OpeningIsWellFormed }
+    ensures collect { CollectKeepsWellFormed }
+    ensures step { StepKeepsWellFormed }
+    ensures next { StepLeavesNext }
+    ensures read { ReadFits }
+    ensures run { RunIsWellFormed }
+    ensures census { CensusAddsUp }
+{}
+
+/// What a change of a graph leaves: what is found in it, and what its census counts.
+pub fn graphs()
+    ensures put { PutIsFound }
+    ensures collected { LeftIsFound }
+    ensures made { EachNewCounts }
+    ensures set { FieldKeepsCensus }
+{}
+
+/// The worked rows: each trace prints and ends as its row says.
+pub fn worked_rows()
+    ensures weak { Hold weak_rows }
+    ensures guardians { Hold guardian_rows }
+    ensures ordered { Hold ordered_rows }
+    ensures moving { Hold moving_rows }
+    ensures printing { Hold printing_rows }
+    ensures tables { Hold table_rows }
+    ensures refusals { Hold refusal_rows }
+    ensures forms { Hold form_rows }
+    ensures workloads { Hold workload_rows }
+    ensures drawn { DrawsFirst }
+{}
