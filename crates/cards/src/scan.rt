@@ -1,6 +1,6 @@
 //! The search for a dirty card: the inner loop of a young collection.
 
-ghost use Rattle.std.specs.Prelude.{◌≡◌, ℕ, ◌+◌, ◌<◌, ◌≤◌, length, slice_index, IsTrue, IfSome, IfNone};
+ghost use Rattle.std.specs.Prelude.{◌≡◌, ℕ, ◌+◌, ◌<◌, ◌≤◌, length, slice_index, slice_index_or, [], IsTrue, IfSome, IfNone};
 ghost use Rattle.cards.specs.Cards.{IsDirty, NoneDirty};
 
 /// Whether these are eight clean cards: one comparison of 64 bits.
@@ -25,20 +25,28 @@ fn dirty_between(bytes: &[u8], from: usize, to: usize, limit: u8) -> Option<usiz
     None
 }
 
-/// The least dirty card of the eight from `at` on: none at one comparison where all are clean.
-fn dirty_of_eight(bytes: &[u8], at: usize, limit: u8) -> Option<usize>
-    requires room { at + 8 ≤ length bytes.now }
-    requires generation { limit < 255 }
-    ensures dirty { IfSome result (λ card. (at ≤ card) × IsDirty bytes.now limit card) }
-    ensures least { IfSome result (λ card. NoneDirty bytes.now limit at card) }
-    ensures none { IfNone result (NoneDirty bytes.now limit at (at + 8)) }
+/// How many of these eights are clean before the first that is not.
+fn clean_eights(eights: &[[u8; 8]]) -> usize
+    ensures within { result ≤ length eights.now }
+    ensures clean { (i k : ℕ) → i < result → k < 8 → slice_index (slice_index_or eights.now i []) k ≡ 255 }
 {
-    if let Some(eight) = bytes[at..].first_chunk::<8>()
-        && are_clean(*eight)
-    {
-        return None;
+    for (count, eight) in eights.iter().enumerate() {
+        if !are_clean(*eight) {
+            return count;
+        }
     }
-    dirty_between(bytes, at, at + 8, limit)
+    eights.len()
+}
+
+/// The card up to which the cards from `from` on are clean, as far as whole eights show it.
+fn after_clean(bytes: &[u8], from: usize) -> usize
+    requires { from ≤ length bytes.now }
+    ensures start { from ≤ result }
+    ensures end { result ≤ length bytes.now }
+    ensures clean { (card : ℕ) → from ≤ card → card < result → slice_index bytes.now card ≡ 255 }
+{
+    let (eights, _) = bytes[from..].as_chunks::<8>();
+    from + 8 * clean_eights(eights)
 }
 
 /// The least dirty card at or after `from`, passing eight clean cards at a time.
@@ -48,16 +56,15 @@ pub fn next_dirty_in(bytes: &[u8], from: usize, limit: u8) -> Option<usize>
     ensures least { IfSome result (λ card. NoneDirty bytes.now limit from card) }
     ensures none { IfNone result (NoneDirty bytes.now limit from (length bytes.now)) }
 {
-    if bytes.len() <= from {
-        return None;
-    }
     let mut at = from;
-    while bytes.len() - at >= 8 {
-        let found = dirty_of_eight(bytes, at, limit);
+    while at < bytes.len() {
+        let start = after_clean(bytes, at);
+        let end = bytes.len().min(start + 8);
+        let found = dirty_between(bytes, start, end, limit);
         if found.is_some() {
             return found;
         }
-        at += 8;
+        at = end;
     }
-    dirty_between(bytes, at, bytes.len(), limit)
+    None
 }
