@@ -60,7 +60,7 @@ line_of r = r.line
 abbrev key_in : ℕ × ℕ → ℕ
 key_in e = e.0
 
-each_born : (g : List (ℕ × Object)) → AllByRecursion (λ e. IsTrue (has (map first g) e.0)) g
+pub each_born : (g : List (ℕ × Object)) → AllByRecursion (λ e. IsTrue (has (map first g) e.0)) g
 each_born [] = tt
 each_born (e ∷ g) = (
   or_left (e.0 == e.0) (has (map first g) e.0) (eq-eqb e.0 e.0 refl),

@@ -38,6 +38,7 @@ target a generation = if nat_le generation a.cg then min (max (generation + 1) a
 
 -- ---- what a collection leaves
 
+-- a value breaks where it is an object that is not kept
 abbrev pub unless_outside : List ℕ → Value → Value
 unless_outside set v = if is_outside set v then bwp else v
 
@@ -53,6 +54,7 @@ abbrev pub queued_for : State → ℕ → ℕ → List (Value × ℕ)
 queued_for s cg guardian =
     map (λ r. (r.representative, r.line)) (filter (λ r. is_given s cg r && (guardian == r.guardian)) s.registrations)
 
+-- what is left of a kept object: its target generation, its fields, and a queue with what the guardian is given
 abbrev pub object_left : State → Arguments → ℕ → Object → Object
 object_left s a birth o = record o {
   generation = target a o.generation;
@@ -60,10 +62,12 @@ object_left s a birth o = record o {
   queue = o.queue ++ queued_for s a.cg birth;
 }
 
+-- the kept objects
 abbrev pub graph_left : State → Arguments → Graph
 graph_left s a =
     map (λ entry. (entry.0, object_left s a entry.0 entry.1)) (filter (λ entry. has (kept s a.cg) entry.0) s.graph)
 
+-- the registrations of kept guardians, but for those that were given
 abbrev pub registrations_left : State → ℕ → List Registration
 registrations_left s cg = filter (λ r. has (kept s cg) r.guardian && not (is_given s cg r)) s.registrations
 
@@ -71,6 +75,7 @@ registrations_left s cg = filter (λ r. has (kept s cg) r.guardian && not (is_gi
 abbrev pub is_fixed : State → ℕ → Object → Bool
 is_fixed s birth o = is_immobile o.kind || has (locked s) birth
 
+-- whether a note of the object goes: an object of an older generation isn't collected, and stays where it is
 abbrev pub is_note_gone : State → ℕ → ℕ → Option Object → Bool
 is_note_gone s cg birth None = false
 is_note_gone s cg birth (Some o) = nat_le o.generation cg && (not (has (kept s cg) birth) || not (is_fixed s birth o))
@@ -80,6 +85,7 @@ abbrev pub note_left : State → ℕ → Note → Note
 note_left s cg (set_to birth) = if is_note_gone s cg birth (object_at s.graph birth) then gone else set_to birth
 note_left s cg note = note
 
+-- the state after a collection with these arguments; nothing else changes
 unfoldable pub collect : State → Arguments → State
 collect s a = record s {
   graph = graph_left s a;

@@ -1,5 +1,5 @@
 -- Why an object is kept, and how much it holds: walks along strong references.
-use Rattle.std.specs.Prelude.{ℕ, zero, suc, ◌==◌, List, [], ◌∷◌, ◌++◌, map, filter, flat_map, length, Option, Some, None, if◌then◌else◌}
+use Rattle.std.specs.Prelude.{◌≡◌, ◌≤◌, ◌<◌, ◌⊎◌, ℕ, zero, suc, ◌==◌, List, [], ◌∷◌, ◌++◌, map, filter, flat_map, length, Option, Some, None, if◌then◌else◌}
 use Rattle.trace_types.specs.declared.kind.Kind.{Kind}
 use Rattle.trace_types.specs.declared.kind.Kind.TheVariants.{Weak}
 use Rattle.trace_types.specs.Values.{Value, objects_in, Object, Graph, object_at, strong_values}
@@ -46,6 +46,33 @@ shortest graph (suc more) n a b = first_or (walks graph n a b) (λ _. shortest g
 -- Among the walks of least length from a to b, the first. Such a walk comes to no object twice.
 unfoldable pub path : Graph → ℕ → ℕ → Option (List ℕ)
 path graph a b = shortest graph (length graph) 0 a b
+
+-- ---- what a path is, in words of its own
+
+-- the object to which the step with the index leads
+abbrev pub step_at : List (ℕ × ℕ) → ℕ → Option ℕ
+step_at [] index = None
+step_at (s ∷ rest) index = if s.0 == index then Some s.1 else step_at rest index
+
+abbrev pub next_of : Graph → Option ℕ → ℕ → Option ℕ
+next_of graph None index = None
+next_of graph (Some a) index = step_at (steps_at (object_at graph a)) index
+
+-- the object to which a list of indexes leads, step by step; the empty list leads nowhere else
+abbrev pub led : Graph → Option ℕ → List ℕ → Option ℕ
+led graph from [] = from
+led graph from (index ∷ walk) = led graph (next_of graph from index) walk
+
+-- the list comes before the other in the order of lists by their numbers from the left
+abbrev pub IsBefore : List ℕ → List ℕ → Type 0
+IsBefore (i ∷ walk) (j ∷ other) = (i < j) ⊎ ((i ≡ j) × IsBefore walk other)
+IsBefore _ _ = ⊥
+
+-- the list is a walk from a to b, no walk is shorter, and no other walk of its length comes before it
+pub record IsPath (graph : Graph) (a b : ℕ) (walk : List ℕ) : Type 0 where
+  pub leads : led graph (Some a) walk ≡ Some b
+  pub shortest : (other : List ℕ) → led graph (Some a) other ≡ Some b → length walk ≤ length other
+  pub first : (other : List ℕ) → led graph (Some a) other ≡ Some b → length other ≡ length walk → IsBefore other walk → ⊥
 
 -- ---- what is reached
 

@@ -1,5 +1,5 @@
 -- What the laws of these definitions say. Each is the contract of a public function that does nothing.
-use Rattle.std.specs.Prelude.{◌≡◌, ℕ, ◌+◌, ◌≤◌, ◌==◌, List, [], ◌∷◌, ◌++◌, length, map, flat_map, sum_by, IsTrue, Some, None, Ok, option_map, if◌then◌else◌}
+use Rattle.std.specs.Prelude.{◌≡◌, ℕ, ◌+◌, ◌≤◌, ◌==◌, List, [], ◌∷◌, ◌++◌, length, map, flat_map, sum_by, IsTrue, Option, Some, None, Ok, option_map, if◌then◌else◌}
 use Rattle.trace_types.specs.declared.kind.Kind.{Kind}
 use Rattle.trace_types.specs.declared.command.Command.{Command}
 use Rattle.trace_types.specs.Values.{Value, Object, Graph, objects_in, object_at, size_of}
@@ -10,6 +10,7 @@ use Rattle.trace_types.specs.Closed.{IsClosed}
 use Rattle.trace_types.specs.WellFormed.{IsWellFormed, IsNext, AllBefore, operands_fit, greatest_line}
 use Rattle.trace_types.specs.Collections.{Arguments, are_allowed, object_left, collect}
 use Rattle.trace_types.specs.Printing.{census, of_generation, words_of}
+use Rattle.trace_types.specs.Finder.{path, led, IsPath}
 use Rattle.trace_types.specs.Steps.{step}
 use Rattle.trace_types.specs.Reading.{read}
 use Rattle.trace_types.specs.Runs.{run}
@@ -129,3 +130,13 @@ abbrev pub FieldKeepsCensus : Type 0
 FieldKeepsCensus =
     (s : State) (x index : ℕ) (o : Object) (v : Value) → IsWellFormed s → object_at s.graph x ≡ Some o
     → census (with_field s x o index v).graph ≡ census s.graph
+
+-- ---- paths
+
+-- what `path` gives is a path, and it gives none only where no walk leads from the one object to the other
+pub record FindsPath (graph : Graph) (a b : ℕ) : Type 0 where
+  pub found : (walk : List ℕ) → path graph a b ≡ Some walk → IsPath graph a b walk
+  pub none : ◌≡◌ {A = Option (List ℕ)} (path graph a b) None → (walk : List ℕ) → led graph (Some a) walk ≡ Some b → ⊥
+
+abbrev pub PathIsFirst : Type 0
+PathIsFirst = (graph : Graph) (a b : ℕ) (o : Object) → object_at graph b ≡ Some o → FindsPath graph a b

@@ -1,4 +1,4 @@
--- The printed texts.
+-- The printed texts. Every printed line ends with the byte 10.
 use Rattle.std.specs.Prelude.{position, unwrap_or, ℕ, zero, suc, ◌/◌, ◌%◌, ◌==◌, List, [], ◌∷◌, ◌++◌, map, filter, fold, length, flat_map, slice_get, sum_by, decimal, codes, nat_abs, Option, Some, None, if◌then◌else◌}
 use Rattle.std.specs.Char.{digit_char}
 use Rattle.std.specs.Fmt.{signed_decimal}
@@ -22,6 +22,7 @@ contents_at (Some o) = contents o
 abbrev pub with_number : List ℕ → ℕ → List ℕ
 with_number births birth = if has births birth then births else births ++ birth ∷ []
 
+-- the births, and those among the object's contents that have no number yet, from left to right
 abbrev pub numbered_at : Graph → Option ℕ → List ℕ → List ℕ
 numbered_at graph None births = births
 numbered_at graph (Some birth) births = fold with_number births (objects_in (contents_at (object_at graph birth)))
@@ -45,6 +46,7 @@ generation_word g = if g == static_generation then codes "s" else decimal g
 abbrev pub number_of : List ℕ → ℕ → ℕ
 number_of numbers birth = unwrap_or (position (λ x. x == birth) numbers) 0
 
+-- a value as it is printed, an object by its number
 abbrev pub value_text : List ℕ → Value → List ℕ
 value_text numbers (fixnum n) = signed_decimal n
 value_text numbers nil = codes "nil"
@@ -58,6 +60,7 @@ abbrev pub byte_text : Value → List ℕ
 byte_text (fixnum n) = digit_char (nat_abs n / 16) ∷ digit_char (nat_abs n % 16) ∷ []
 byte_text _ = []
 
+-- one field or queued value, after a space
 abbrev pub content_text : List ℕ → Kind → Value → List ℕ
 content_text numbers kind v = codes " " ++ (if has_bytes kind then byte_text v else value_text numbers v)
 
@@ -76,9 +79,11 @@ print_text graph v =
 
 -- ---- census
 
+-- the objects of one generation
 abbrev pub of_generation : ℕ → Graph → Graph
 of_generation g graph = filter (λ entry. entry.1.generation == g) graph
 
+-- the sum of their sizes; queue cells are no objects and are not counted
 abbrev pub words_of : Graph → ℕ
 words_of graph = sum_by (λ entry. size_of entry.1.kind entry.1.fields) graph
 
@@ -95,6 +100,7 @@ census_lines g (pair ∷ pairs) =
     (if pair.0 == 0 then [] else codes "g" ++ generation_word g ++ codes " " ++ decimal pair.0 ++ codes " " ++ decimal pair.1 ++ 10 ∷ [])
     ++ census_lines (suc g) pairs
 
+-- a line for each generation with objects, in ascending order, the static one last
 unfoldable pub census_text : Graph → List ℕ
 census_text graph = census_lines 0 (census graph)
 

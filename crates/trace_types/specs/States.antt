@@ -52,12 +52,15 @@ opening oldest = record {
   version = 1;
 }
 
+-- ---- parts of a state
+
 abbrev pub register_value : State → ℕ → Value
 register_value s r = slice_index_or s.registers r nil
 
 abbrev pub with_register : State → ℕ → Value → State
 with_register s r v = record s { registers = set s.registers r v }
 
+-- what an operand stands for
 abbrev pub operand_value : State → Operand → Value
 operand_value s (Reg r) = register_value s r
 operand_value s (Fixnum n) = fixnum n
@@ -85,9 +88,11 @@ abbrev pub or_zero : Option ℕ → ℕ
 or_zero None = 0
 or_zero (Some n) = n
 
+-- how often the object is locked
 abbrev pub lock_count : State → ℕ → ℕ
 lock_count s birth = or_zero (find nat_cmp birth s.locks)
 
+-- the objects that are locked
 abbrev pub locked : State → List ℕ
 locked s = map (λ entry. entry.0) s.locks
 

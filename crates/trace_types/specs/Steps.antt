@@ -1,4 +1,4 @@
--- What each command does to a state and prints, or its fault.
+-- What each command does to a state and prints, or its fault by kinds, indexes, lengths and the state.
 use Rattle.std.specs.Prelude.{ℕ, zero, suc, ◌+◌, ◌-◌, pos, Bool, false, not, ◌&&◌, ◌||◌, ◌==◌, nat_lt, nat_le, List, [], ◌∷◌, ◌++◌, length, replicate, set, slice_index_or, codes, Option, Some, None, Result, Ok, Err, if◌then◌else◌}
 use Rattle.std.specs.FinMap.{put}
 use Rattle.std.specs.FinMap.Entries.{where_key}
@@ -22,6 +22,7 @@ use Rattle.trace_types.specs.Finder.{path, reached}
 
 -- ---- what a command asks of its operands
 
+-- an object that was looked up
 abbrev pub found_object : ℕ → Option Object → Result (ℕ × Object) Fault
 found_object birth None = Err WrongKind
 found_object birth (Some o) = Ok (birth, o)
@@ -53,10 +54,12 @@ not_too_long s n answer = if nat_le n (greatest_length s) then answer else Err B
 
 -- ---- guardians
 
+-- the representative, which is the object itself where none is named
 abbrev pub or_itself : State → Value → Option Operand → Value
 or_itself s v None = v
 or_itself s v (Some r) = operand_value s r
 
+-- a registration more, behind the others
 abbrev pub with_registration : State → Registration → State
 with_registration s r = record s { registrations = s.registrations ++ r ∷ [] }
 
@@ -72,10 +75,12 @@ abbrev pub with_lock_count : State → ℕ → ℕ → State
 with_lock_count s birth zero = record s { locks = where_key nat_cmp (λ x. not (birth == x)) s.locks }
 with_lock_count s birth (suc n) = record s { locks = put nat_cmp birth (suc n) s.locks }
 
+-- whether the value is this object
 abbrev pub is_same_object : ℕ → Value → Bool
 is_same_object birth (object other) = birth == other
 is_same_object birth _ = false
 
+-- what a note and a register come to
 abbrev pub checked : State → ℕ → Value → states.Note → Answer
 checked s k v states.empty = Err BadNote
 checked s k v states.gone = Ok (s, check_text k (codes "gone"))
@@ -83,6 +88,7 @@ checked s k v (states.set_to birth) = Ok (s, check_text k (if is_same_object bir
 
 -- ---- collections
 
+-- a plain collection counts itself first, and is never refused
 abbrev pub collected : State → CollectArgs → Answer
 collected s Plain = silently (collect (record s { collects = s.collects + 1 }) (plain_arguments s.oldest (s.collects + 1)))
 collected s (Explicit cg least greatest) =
@@ -95,7 +101,7 @@ collected s (Explicit cg least greatest) =
 abbrev pub table_of : State → Value → Result (ℕ × Object) Fault
 table_of s v = object_of s v >>= λ t. if is_table t.1.kind then Ok t else Err WrongKind
 
--- what a key may be
+-- a key, which may not be `bwp`
 abbrev pub whole_key : Value → Result Value Fault
 whole_key key = if same_value key bwp then Err WrongKind else Ok key
 
@@ -128,8 +134,9 @@ abbrev pub size_from : Graph → Value → List ℕ
 size_from graph (object birth) = let found = reached graph birth in size_text (length found) (words_of found)
 size_from graph _ = size_text 0 0
 
--- ---- the table
+-- ---- the table of commands
 
+-- What command c does as line n. All operands are valued before a register is changed.
 unfoldable pub step : State → ℕ → Command → Answer
 step s line (Thread thread) = silently (record s { thread = thread })
 step s line (Cons d car cdr) = silently (with_new s line d Kind.Pair (operand_value s car ∷ operand_value s cdr ∷ []))

@@ -63,6 +63,7 @@ pub record Object : Type 0 where
 abbrev pub Graph : Type 0
 Graph = List (ℕ × Object)
 
+-- the object of this birth, where there is one
 abbrev pub object_at : Graph → ℕ → Option Object
 object_at graph birth = find nat_cmp birth graph
 

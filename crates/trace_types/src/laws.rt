@@ -5,6 +5,7 @@ ghost use Rattle.trace_types.specs.Laws.{AccessibleIsLeastClosed, EachPhaseGrows
 ghost use Rattle.trace_types.specs.Laws.{OpeningIsWellFormed, CollectKeepsWellFormed};
 ghost use Rattle.trace_types.specs.Laws.{StepKeepsWellFormed, StepLeavesNext, ReadFits, RunIsWellFormed, CensusAddsUp};
 ghost use Rattle.trace_types.specs.Laws.{PutIsFound, LeftIsFound, EachNewCounts, FieldKeepsCensus};
+ghost use Rattle.trace_types.specs.Laws.{PathIsFirst};
 ghost use Rattle.trace_types.specs.Rows.{Hold};
 ghost use Rattle.trace_types.specs.worked.Weak.{weak_rows};
 ghost use Rattle.trace_types.specs.worked.Guardians.{guardian_rows};
@@ -48,6 +49,12 @@ pub fn graphs()
     ensures collected { LeftIsFound }
     ensures made { EachNewCounts }
     ensures set { FieldKeepsCensus }
+{}
+
+/// What the path finder finds: of the walks along strong references the shortest, and of these the first.
+/// It finds none only where there is none.
+pub fn paths()
+    ensures { PathIsFirst }
 {}
 
 /// The worked rows: each trace prints and ends as its row says.
