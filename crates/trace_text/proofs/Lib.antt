@@ -1,4 +1,5 @@
 pub mod Answering
+pub mod Growing
 pub mod Shaping
 pub mod Splitting
 pub mod Wording

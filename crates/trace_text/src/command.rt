@@ -184,3 +184,6 @@ pub fn read_command(line: &[u8]) -> Result<Option<Command>, Fault>
     let command = read_fields(Fields::of(line))?;
     Ok(Some(command))
 }
+
+#[cfg(test)]
+mod tests;
