@@ -4,6 +4,8 @@ pub mod Lining
 pub mod Lasting
 pub mod Searches
 pub mod Answering
+pub mod Growing
+pub mod Printable
 pub mod Shaping
 pub mod Splitting
 pub mod Wording

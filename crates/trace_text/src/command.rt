@@ -178,9 +178,13 @@ pub fn read_command(line: &[u8]) -> Result<Option<Command>, Fault>
     if is_skipped(line) {
         return Ok(None);
     }
-    if !is_printable(line) {
-        return Err(Fault::NotText);
+    match read_fields(Fields::of(line)) {
+        Ok(command) => Ok(Some(command)),
+        // A line that says a command has no other bytes, so these are looked for in a refused one alone.
+        Err(_) if !is_printable(line) => Err(Fault::NotText),
+        Err(fault) => Err(fault),
     }
-    let command = read_fields(Fields::of(line))?;
-    Ok(Some(command))
 }
+
+#[cfg(test)]
+mod tests;
