@@ -240,98 +240,43 @@ by_word_prints (row ∷ rows) each word operands command = either (bytes_eq word
     (λ same h. (same_text word row.0 each.0.0 same, each.0.1 operands command h))
     (by_word_prints rows each.1 word operands command)
 
+infixr 4 ◌and◌
+abbrev ◌and◌ : {A B : Type 0} → A → B → A × B
+a and b = (a, b)
+
 grammar_prints : EachRowPrints grammar
-grammar_prints = (
-  (refl, one_operand_prints thread _ thread_prints),
-  (
-    (refl, three_operands_print register value value _ register_prints value_prints value_prints),
-    (
-      (refl, three_operands_print register value value _ register_prints value_prints value_prints),
-      (
-        (refl, three_operands_print register value value _ register_prints value_prints value_prints),
-        (
-          (refl, two_operands_print register value _ register_prints value_prints),
-          (
-            (refl, three_operands_print register count value _ register_prints count_prints value_prints),
-            (
-              (refl, three_operands_print register count byte _ register_prints count_prints byte_prints),
-              (
-                (refl, three_operands_print register count value _ register_prints count_prints value_prints),
-                (
-                  (refl, three_operands_print register count byte _ register_prints count_prints byte_prints),
-                  (
-                    (refl, one_operand_prints register _ register_prints),
-                    (
-                      (refl, one_operand_prints register _ register_prints),
-                      (
-                        (refl, registration_prints),
-                        (
-                          (refl, two_operands_print register register _ register_prints register_prints),
-                          (
-                            (refl, three_operands_print register register count _ register_prints register_prints count_prints),
-                            (
-                              (refl, three_operands_print register count value _ register_prints count_prints value_prints),
-                              (
-                                (refl, two_operands_print register value _ register_prints value_prints),
-                                (
-                                  (refl, one_operand_prints value _ value_prints),
-                                  (
-                                    (refl, one_operand_prints value _ value_prints),
-                                    (
-                                      (refl, two_operands_print byte register _ byte_prints register_prints),
-                                      (
-                                        (refl, two_operands_print byte register _ byte_prints register_prints),
-                                        (
-                                          (refl, collection_prints),
-                                          (
-                                            (refl, one_operand_prints value _ value_prints),
-                                            (
-                                              (refl, no_operand_prints _),
-                                              (
-                                                (refl, one_operand_prints value _ value_prints),
-                                                (
-                                                  (refl, version_prints),
-                                                  (
-                                                    (refl, table_put_prints),
-                                                    (
-                                                      (refl, three_operands_print register register value _ register_prints register_prints value_prints),
-                                                      (
-                                                        (refl, two_operands_print register value _ register_prints value_prints),
-                                                        (
-                                                          (refl, two_operands_print register value _ register_prints value_prints),
-                                                          (
-                                                            (refl, one_operand_prints register _ register_prints),
-                                                            tt,
-                                                          ),
-                                                        ),
-                                                      ),
-                                                    ),
-                                                  ),
-                                                ),
-                                              ),
-                                            ),
-                                          ),
-                                        ),
-                                      ),
-                                    ),
-                                  ),
-                                ),
-                              ),
-                            ),
-                          ),
-                        ),
-                      ),
-                    ),
-                  ),
-                ),
-              ),
-            ),
-          ),
-        ),
-      ),
-    ),
-  ),
-)
+grammar_prints =
+    (refl, one_operand_prints thread _ thread_prints)
+    and (refl, three_operands_print register value value _ register_prints value_prints value_prints)
+    and (refl, three_operands_print register value value _ register_prints value_prints value_prints)
+    and (refl, three_operands_print register value value _ register_prints value_prints value_prints)
+    and (refl, two_operands_print register value _ register_prints value_prints)
+    and (refl, three_operands_print register count value _ register_prints count_prints value_prints)
+    and (refl, three_operands_print register count byte _ register_prints count_prints byte_prints)
+    and (refl, three_operands_print register count value _ register_prints count_prints value_prints)
+    and (refl, three_operands_print register count byte _ register_prints count_prints byte_prints)
+    and (refl, one_operand_prints register _ register_prints)
+    and (refl, one_operand_prints register _ register_prints)
+    and (refl, registration_prints)
+    and (refl, two_operands_print register register _ register_prints register_prints)
+    and (refl, three_operands_print register register count _ register_prints register_prints count_prints)
+    and (refl, three_operands_print register count value _ register_prints count_prints value_prints)
+    and (refl, two_operands_print register value _ register_prints value_prints)
+    and (refl, one_operand_prints value _ value_prints)
+    and (refl, one_operand_prints value _ value_prints)
+    and (refl, two_operands_print byte register _ byte_prints register_prints)
+    and (refl, two_operands_print byte register _ byte_prints register_prints)
+    and (refl, collection_prints)
+    and (refl, one_operand_prints value _ value_prints)
+    and (refl, no_operand_prints _)
+    and (refl, one_operand_prints value _ value_prints)
+    and (refl, version_prints)
+    and (refl, table_put_prints)
+    and (refl, three_operands_print register register value _ register_prints register_prints value_prints)
+    and (refl, two_operands_print register value _ register_prints value_prints)
+    and (refl, two_operands_print register value _ register_prints value_prints)
+    and (refl, one_operand_prints register _ register_prints)
+    and tt
 
 -- ---- fields
 

@@ -1,4 +1,7 @@
 //! What a line says: nothing, one command, or the first fault.
+//!
+//! The first field is the command word. It is compared with the words of its length alone, so a line
+//! takes few comparisons, and each word hands the other fields to its function of `rows`.
 
 ghost use Rattle.std.specs.Prelude.{◌≡◌, ◌≤◌, length};
 ghost use Rattle.std.specs.List.{list_all};
@@ -14,6 +17,7 @@ use crate::rows::{
 };
 use trace_types::{Command, Fault};
 
+/// A command whose word has three letters.
 fn read_three_letters(word: &[u8], operands: Fields) -> Result<Command, Fault>
     ensures { result ≡ by_word (words_of 3) word.now operands.entry }
 {
@@ -44,6 +48,7 @@ fn read_three_letters(word: &[u8], operands: Fields) -> Result<Command, Fault>
     Err(Fault::UnknownCommand)
 }
 
+/// A command whose word has four letters.
 fn read_four_letters(word: &[u8], operands: Fields) -> Result<Command, Fault>
     ensures { result ≡ by_word (words_of 4) word.now operands.entry }
 {
@@ -83,6 +88,7 @@ fn read_four_letters(word: &[u8], operands: Fields) -> Result<Command, Fault>
     Err(Fault::UnknownCommand)
 }
 
+/// A command whose word has five letters.
 fn read_five_letters(word: &[u8], operands: Fields) -> Result<Command, Fault>
     ensures { result ≡ by_word (words_of 5) word.now operands.entry }
 {
@@ -101,6 +107,7 @@ fn read_five_letters(word: &[u8], operands: Fields) -> Result<Command, Fault>
     Err(Fault::UnknownCommand)
 }
 
+/// A command whose word has six letters.
 fn read_six_letters(word: &[u8], operands: Fields) -> Result<Command, Fault>
     ensures { result ≡ by_word (words_of 6) word.now operands.entry }
 {
@@ -122,6 +129,7 @@ fn read_six_letters(word: &[u8], operands: Fields) -> Result<Command, Fault>
     Err(Fault::UnknownCommand)
 }
 
+/// A command whose word has seven letters.
 fn read_seven_letters(word: &[u8], operands: Fields) -> Result<Command, Fault>
     ensures { result ≡ by_word (words_of 7) word.now operands.entry }
 {
@@ -170,7 +178,21 @@ fn is_printable(line: &[u8]) -> bool
     line.iter().all(|c| b' ' <= *c && *c <= b'~')
 }
 
-/// What a line says: nothing where it is empty or begins with `;`, else one command or its first fault.
+/// What a line of a trace says: nothing, one command, or its first fault. Takes no memory.
+///
+/// `line` is the line without its newline, of at most 1,024 bytes. The answer is `None` for an empty
+/// line and for a comment, which begins with `;` and may hold any bytes. Any other line is split at
+/// each space, and has the first of these faults that is there:
+///
+/// 1. `NotText`: a byte is outside 32 to 126.
+/// 2. `UnknownCommand`: the first field is no command word, or it is `version` and the others are not
+///    the one field `2`.
+/// 3. `OperandCount`: the command does not take this number of other fields.
+/// 4. The operands' own faults, from left to right: `BadRegister`, `BadNumber`, `BadThread` and
+///    `BadGeneration`, where a field has not the form of its class or is out of its range. In `tput`
+///    an operand that is the register of the entry is `BadRegister` too.
+///
+/// The grammar and the order of its faults are this project's own.
 pub fn read_command(line: &[u8]) -> Result<Option<Command>, Fault>
     requires { length line.now ≤ 1024 }
     ensures { result ≡ read line.now }
