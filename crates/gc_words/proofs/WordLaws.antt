@@ -28,3 +28,8 @@ value_of_valid w h = grind (arith, nat_tests)
 pub value_of_some : (w : ℕ) → IsSome (value_of w) ↔ HasForm w
 unfolding value_of
 value_of_some w = grind (arith, nat_tests)
+
+-- a word that decodes to a place is the word of that place
+pub word_of-object : (w a : ℕ) → value_of w ≡ Some (Object a) → word_of (Object a) ≡ w
+unfolding value_of
+word_of-object w a e = grind (arith, nat_tests, e)
