@@ -4,13 +4,13 @@ use Rattle.trace_types.specs.declared.kind.Kind.{Kind}
 use Rattle.trace_types.specs.declared.command.Command.{Command}
 use Rattle.trace_types.specs.Values.{Value, Object, Graph, objects_in, object_at, size_of}
 use Rattle.trace_types.specs.States.{State, opening, locked, with_object, with_field, new_object, with_new}
-use Rattle.trace_types.specs.Rules.{Rule, has, ◌⊆◌, least, MeetsAll, IsAmong}
+use Rattle.trace_types.specs.Rules.{Rule, has, ◌⊆◌, least, MeetsAll, IsAmong, facts, IsLeastWith}
 use Rattle.trace_types.specs.Kept.{older, accessible, accessible_or_served, waited_for, kept}
-use Rattle.trace_types.specs.Closed.{IsClosed}
+use Rattle.trace_types.specs.Closed.{IsClosed, HoldsServed, HoldsAsked, HoldsKept}
 use Rattle.trace_types.specs.WellFormed.{IsWellFormed, IsNext, AllBefore, operands_fit, greatest_line}
 use Rattle.trace_types.specs.Collections.{Arguments, are_allowed, object_left, collect}
 use Rattle.trace_types.specs.Printing.{census, of_generation, words_of}
-use Rattle.trace_types.specs.Finder.{path, led, IsPath}
+use Rattle.trace_types.specs.Finder.{path, led, IsPath, reach, HoldsReached}
 use Rattle.trace_types.specs.Steps.{step}
 use Rattle.trace_types.specs.Reading.{read}
 use Rattle.trace_types.specs.Runs.{run}
@@ -29,6 +29,13 @@ LeastIsLeast = (rules : List Rule) → IsLeast rules (least rules)
 -- More rules, more objects. So the least set depends on its rules as a set.
 abbrev pub LeastGrows : Type 0
 LeastGrows = (rules others : List Rule) → IsAmong rules others → least rules ⊆ least others
+
+abbrev pub LeastIsOfASet : Type 0
+LeastIsOfASet = (rules others : List Rule) → IsAmong rules others → IsAmong others rules → (x : ℕ) → has (least rules) x ≡ has (least others) x
+
+-- further rules go on from what is there already
+abbrev pub LeastGoesOn : Type 0
+LeastGoesOn = (rules more : List Rule) (x : ℕ) → has (least (rules ++ more)) x ≡ has (least (facts (least rules) ++ (rules ++ more))) x
 
 -- the rules with other names for the objects
 abbrev pub renamed : (ℕ → ℕ) → List Rule → List Rule
@@ -55,6 +62,15 @@ pub record IsAccessible (s : State) (cg : ℕ) (set : List ℕ) : Type 0 where
 
 abbrev pub AccessibleIsLeastClosed : Type 0
 AccessibleIsLeastClosed = (s : State) (cg : ℕ) → IsWellFormed s → IsAccessible s cg (accessible s cg)
+
+-- L, W and K are the least sets of their kind
+pub record PhasesAreLeast (s : State) (cg : ℕ) : Type 0 where
+  pub served : IsLeastWith (HoldsServed s cg) (accessible_or_served s cg)
+  pub waited : IsLeastWith (HoldsAsked s cg) (waited_for s cg)
+  pub kept : IsLeastWith (HoldsKept s cg) (kept s cg)
+
+abbrev pub EachPhaseIsLeast : Type 0
+EachPhaseIsLeast = (s : State) (cg : ℕ) → IsWellFormed s → PhasesAreLeast s cg
 
 -- A is in L, L in W, and W in K
 pub record PhasesGrow (s : State) (cg : ℕ) : Type 0 where
@@ -140,3 +156,7 @@ pub record FindsPath (graph : Graph) (a b : ℕ) : Type 0 where
 
 abbrev pub PathIsFirst : Type 0
 PathIsFirst = (graph : Graph) (a b : ℕ) (o : Object) → object_at graph b ≡ Some o → FindsPath graph a b
+
+-- what is reached is the least set that holds the object and what a step of a member leads to
+abbrev pub ReachIsLeast : Type 0
+ReachIsLeast = (s : State) (a : ℕ) → IsWellFormed s → IsLeastWith (HoldsReached s.graph a) (reach s.graph a)
