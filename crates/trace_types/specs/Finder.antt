@@ -72,7 +72,8 @@ IsBefore _ _ = ⊥
 pub record IsPath (graph : Graph) (a b : ℕ) (walk : List ℕ) : Type 0 where
   pub leads : led graph (Some a) walk ≡ Some b
   pub shortest : (other : List ℕ) → led graph (Some a) other ≡ Some b → length walk ≤ length other
-  pub first : (other : List ℕ) → led graph (Some a) other ≡ Some b → length other ≡ length walk → IsBefore other walk → ⊥
+  pub first : (other : List ℕ) → led graph (Some a) other ≡ Some b → length other ≡ length walk
+      → IsBefore other walk → ⊥
 
 -- ---- what is reached
 
