@@ -45,7 +45,7 @@ slot_there (v ∷ vs) (suc i) xs h = slot_there vs i xs (objects_right (v ∷ []
 pub no_objects : (xs : List ℕ) → [] ⊆ xs
 no_objects xs x there = absurd (false≢true there)
 
-one_sub : (xs : List ℕ) (x : ℕ) → IsTrue (has xs x) → (x ∷ []) ⊆ xs
+pub one_sub : (xs : List ℕ) (x : ℕ) → IsTrue (has xs x) → (x ∷ []) ⊆ xs
 one_sub xs x h y there = elim (or_cases (x == y) false there) [ inl e ↦ subst (λ z. IsTrue (has xs z)) (eqb-true x y e) h | inr e ↦ absurd (false≢true e) ]
 
 abbrev value_in : Value × ℕ → Value

@@ -18,7 +18,7 @@ use Rattle.trace_types.specs.WellFormed.{IsWellFormed}
 use Rattle.trace_types.specs.Laws.{IsAccessible}
 use Rattle.trace_types.proofs.Least.{meets_use, meets_from, each_weaker, MeetsAll-append, has_all_from, has_all_at, least_meets, least_below, facts_there, facts_met}
 
-abbrev Met : List ℕ → List Rule → Type 0
+abbrev pub Met : List ℕ → List Rule → Type 0
 Met set rs = AllByRecursion (λ r. IsTrue (meets set r)) rs
 
 pub each_append : {X : Type 0} (P : X → Type 0) (xs ys : List X) → AllByRecursion P xs → AllByRecursion P ys → AllByRecursion P (xs ++ ys)

@@ -1,9 +1,9 @@
 -- Why an object is kept, and how much it holds: walks along strong references.
-use Rattle.std.specs.Prelude.{◌≡◌, ◌≤◌, ◌<◌, ◌⊎◌, ℕ, zero, suc, ◌==◌, List, [], ◌∷◌, ◌++◌, map, filter, flat_map, length, Option, Some, None, if◌then◌else◌}
+use Rattle.std.specs.Prelude.{◌≡◌, ◌≤◌, ◌<◌, ◌⊎◌, ℕ, zero, suc, ◌==◌, List, [], ◌∷◌, ◌++◌, map, filter, flat_map, length, Option, Some, None, IsTrue, if◌then◌else◌}
 use Rattle.trace_types.specs.declared.kind.Kind.{Kind}
 use Rattle.trace_types.specs.declared.kind.Kind.TheVariants.{Weak}
-use Rattle.trace_types.specs.Values.{Value, objects_in, Object, Graph, object_at, strong_values}
-use Rattle.trace_types.specs.Rules.{has, least, facts}
+use Rattle.trace_types.specs.Values.{Value, objects_in, Object, Graph, object_at, strong_values, strong_references}
+use Rattle.trace_types.specs.Rules.{has, ◌⊆◌, least, facts}
 use Rattle.trace_types.specs.Kept.{strong_rules}
 
 -- ---- steps
@@ -72,13 +72,19 @@ IsBefore _ _ = ⊥
 pub record IsPath (graph : Graph) (a b : ℕ) (walk : List ℕ) : Type 0 where
   pub leads : led graph (Some a) walk ≡ Some b
   pub shortest : (other : List ℕ) → led graph (Some a) other ≡ Some b → length walk ≤ length other
-  pub first : (other : List ℕ) → led graph (Some a) other ≡ Some b → length other ≡ length walk → IsBefore other walk → ⊥
+  pub first : (other : List ℕ) → led graph (Some a) other ≡ Some b → length other ≡ length walk
+      → IsBefore other walk → ⊥
 
 -- ---- what is reached
 
 -- the least set that holds a and every object to which a step of a member leads
 unfoldable pub reach : Graph → ℕ → List ℕ
 reach graph a = least (facts (a ∷ []) ++ flat_map (λ entry. strong_rules entry.0 entry.1) graph)
+
+-- the same in words of its own: what the set holds
+pub record HoldsReached (graph : Graph) (a : ℕ) (set : List ℕ) : Type 0 where
+  pub start : IsTrue (has set a)
+  pub steps : (x : ℕ) (o : Object) → object_at graph x ≡ Some o → IsTrue (has set x) → strong_references o ⊆ set
 
 -- the objects that are reached from a
 abbrev pub reached : Graph → ℕ → Graph

@@ -122,11 +122,15 @@ is_ready s cg r = is_candidate s cg r && is_outside (waited_for s cg) r.object
 abbrev pub ready : State → ℕ → List Registration
 ready s cg = filter (is_ready s cg) s.registrations
 
--- from the guardian of a dead registration that is ordered and no candidate, the object
+-- whether the registration is a dead one of an ordered guardian, and no candidate
+abbrev pub is_unready : State → ℕ → Registration → Bool
+is_unready s cg r = is_dead s cg r && is_ordered s r && not (is_candidate s cg r)
+
+-- from the guardian of such a registration, the object
 abbrev pub unready_rules : State → ℕ → List Rule
 unready_rules s cg =
     flat_map (λ r. rules_to r.object (r.guardian ∷ []))
-    (filter (λ r. is_dead s cg r && is_ordered s r && not (is_candidate s cg r)) s.registrations)
+    (filter (is_unready s cg) s.registrations)
 
 -- K: the least set with W and what is given, in which registrations that are not given keep their objects
 unfoldable pub kept : State → ℕ → List ℕ

@@ -4,13 +4,13 @@ use Rattle.trace_types.specs.declared.kind.Kind.{Kind}
 use Rattle.trace_types.specs.declared.command.Command.{Command}
 use Rattle.trace_types.specs.Values.{Value, Object, Graph, objects_in, object_at, size_of}
 use Rattle.trace_types.specs.States.{State, opening, locked, with_object, with_field, new_object, with_new}
-use Rattle.trace_types.specs.Rules.{Rule, has, ◌⊆◌, least, MeetsAll, IsAmong}
+use Rattle.trace_types.specs.Rules.{Rule, has, ◌⊆◌, least, MeetsAll, IsAmong, facts, IsLeastWith}
 use Rattle.trace_types.specs.Kept.{older, accessible, accessible_or_served, waited_for, kept}
-use Rattle.trace_types.specs.Closed.{IsClosed}
+use Rattle.trace_types.specs.Closed.{IsClosed, HoldsServed, HoldsAsked, HoldsKept}
 use Rattle.trace_types.specs.WellFormed.{IsWellFormed, IsNext, AllBefore, operands_fit, greatest_line}
 use Rattle.trace_types.specs.Collections.{Arguments, are_allowed, object_left, collect}
 use Rattle.trace_types.specs.Printing.{census, of_generation, words_of}
-use Rattle.trace_types.specs.Finder.{path, led, IsPath}
+use Rattle.trace_types.specs.Finder.{path, led, IsPath, reach, HoldsReached}
 use Rattle.trace_types.specs.Steps.{step}
 use Rattle.trace_types.specs.Reading.{read}
 use Rattle.trace_types.specs.Runs.{run}
@@ -30,6 +30,15 @@ LeastIsLeast = (rules : List Rule) → IsLeast rules (least rules)
 abbrev pub LeastGrows : Type 0
 LeastGrows = (rules others : List Rule) → IsAmong rules others → least rules ⊆ least others
 
+abbrev pub LeastIsOfASet : Type 0
+LeastIsOfASet = (rules others : List Rule) → IsAmong rules others → IsAmong others rules → (x : ℕ)
+    → has (least rules) x ≡ has (least others) x
+
+-- further rules go on from what is there already
+abbrev pub LeastGoesOn : Type 0
+LeastGoesOn = (rules more : List Rule) (x : ℕ)
+    → has (least (rules ++ more)) x ≡ has (least (facts (least rules) ++ (rules ++ more))) x
+
 -- the rules with other names for the objects
 abbrev pub renamed : (ℕ → ℕ) → List Rule → List Rule
 renamed name rules = map (λ (r : Rule). record { premises = map name r.premises; conclusion = name r.conclusion }) rules
@@ -43,7 +52,8 @@ KeepsApart name set = (x y : ℕ) → IsTrue (has set x) → IsTrue (has set y) 
 
 -- other names for the objects of the rules are other names for the objects of the least set
 abbrev pub LeastIsRenamed : Type 0
-LeastIsRenamed = (name : ℕ → ℕ) (rules : List Rule) → KeepsApart name (mentioned rules) → least (renamed name rules) ≡ map name (least rules)
+LeastIsRenamed = (name : ℕ → ℕ) (rules : List Rule) → KeepsApart name (mentioned rules)
+    → least (renamed name rules) ≡ map name (least rules)
 
 -- ---- a collection
 
@@ -51,10 +61,20 @@ LeastIsRenamed = (name : ℕ → ℕ) (rules : List Rule) → KeepsApart name (m
 pub record IsAccessible (s : State) (cg : ℕ) (set : List ℕ) : Type 0 where
   pub closed : IsClosed s set
   pub roots : (objects_in s.registers ++ locked s ++ older s cg) ⊆ set
-  pub below_each : (other : List ℕ) → IsClosed s other → (objects_in s.registers ++ locked s ++ older s cg) ⊆ other → set ⊆ other
+  pub below_each : (other : List ℕ) → IsClosed s other
+      → (objects_in s.registers ++ locked s ++ older s cg) ⊆ other → set ⊆ other
 
 abbrev pub AccessibleIsLeastClosed : Type 0
 AccessibleIsLeastClosed = (s : State) (cg : ℕ) → IsWellFormed s → IsAccessible s cg (accessible s cg)
+
+-- L, W and K are the least sets of their kind
+pub record PhasesAreLeast (s : State) (cg : ℕ) : Type 0 where
+  pub served : IsLeastWith (HoldsServed s cg) (accessible_or_served s cg)
+  pub waited : IsLeastWith (HoldsAsked s cg) (waited_for s cg)
+  pub kept : IsLeastWith (HoldsKept s cg) (kept s cg)
+
+abbrev pub EachPhaseIsLeast : Type 0
+EachPhaseIsLeast = (s : State) (cg : ℕ) → IsWellFormed s → PhasesAreLeast s cg
 
 -- A is in L, L in W, and W in K
 pub record PhasesGrow (s : State) (cg : ℕ) : Type 0 where
@@ -71,7 +91,8 @@ abbrev pub OpeningIsWellFormed : Type 0
 OpeningIsWellFormed = (oldest : ℕ) → 1 ≤ oldest → oldest ≤ 7 → IsWellFormed (opening oldest)
 
 abbrev pub CollectKeepsWellFormed : Type 0
-CollectKeepsWellFormed = (s : State) (a : Arguments) → IsWellFormed s → IsTrue (are_allowed s.version s.oldest a) → IsWellFormed (collect s a)
+CollectKeepsWellFormed = (s : State) (a : Arguments) → IsWellFormed s
+    → IsTrue (are_allowed s.version s.oldest a) → IsWellFormed (collect s a)
 
 abbrev pub StepKeepsWellFormed : Type 0
 StepKeepsWellFormed =
@@ -108,7 +129,8 @@ CensusAddsUp = (s : State) → IsWellFormed s → AddsUp s.graph
 
 -- what is found after an object was put under a birth: it, and the others as they were
 abbrev pub PutIsFound : Type 0
-PutIsFound = (s : State) (birth q : ℕ) (o : Object) → object_at (with_object s birth o).graph q ≡ (if q == birth then Some o else object_at s.graph q)
+PutIsFound = (s : State) (birth q : ℕ) (o : Object)
+    → object_at (with_object s birth o).graph q ≡ (if q == birth then Some o else object_at s.graph q)
 
 -- what is found after a collection: what is left of a kept object
 abbrev pub LeftIsFound : Type 0
@@ -119,11 +141,14 @@ LeftIsFound =
 -- a new object is the last of the graph, and it counts in generation 0
 pub record NewCounts (s : State) (line d : ℕ) (kind : Kind) (fields : List Value) : Type 0 where
   pub last : (with_new s line d kind fields).graph ≡ s.graph ++ (line, new_object s kind fields) ∷ []
-  pub objects : (g : ℕ) → length (of_generation g (with_new s line d kind fields).graph) ≡ length (of_generation g s.graph) + (if g == 0 then 1 else 0)
-  pub words : (g : ℕ) → words_of (of_generation g (with_new s line d kind fields).graph) ≡ words_of (of_generation g s.graph) + (if g == 0 then size_of kind fields else 0)
+  pub objects : (g : ℕ)
+      → length (of_generation g (with_new s line d kind fields).graph) ≡ length (of_generation g s.graph) + (if g == 0 then 1 else 0)
+  pub words : (g : ℕ)
+      → words_of (of_generation g (with_new s line d kind fields).graph) ≡ words_of (of_generation g s.graph) + (if g == 0 then size_of kind fields else 0)
 
 abbrev pub EachNewCounts : Type 0
-EachNewCounts = (s : State) (line d : ℕ) (kind : Kind) (fields : List Value) → AllBefore s line → NewCounts s line d kind fields
+EachNewCounts = (s : State) (line d : ℕ) (kind : Kind) (fields : List Value) → AllBefore s line
+    → NewCounts s line d kind fields
 
 -- a change of a field changes no count
 abbrev pub FieldKeepsCensus : Type 0
@@ -136,7 +161,12 @@ FieldKeepsCensus =
 -- what `path` gives is a path, and it gives none only where no walk leads from the one object to the other
 pub record FindsPath (graph : Graph) (a b : ℕ) : Type 0 where
   pub found : (walk : List ℕ) → path graph a b ≡ Some walk → IsPath graph a b walk
-  pub none : ◌≡◌ {A = Option (List ℕ)} (path graph a b) None → (walk : List ℕ) → led graph (Some a) walk ≡ Some b → ⊥
+  pub none : ◌≡◌ {A = Option (List ℕ)} (path graph a b) None → (walk : List ℕ)
+      → led graph (Some a) walk ≡ Some b → ⊥
 
 abbrev pub PathIsFirst : Type 0
 PathIsFirst = (graph : Graph) (a b : ℕ) (o : Object) → object_at graph b ≡ Some o → FindsPath graph a b
+
+-- what is reached is the least set that holds the object and what a step of a member leads to
+abbrev pub ReachIsLeast : Type 0
+ReachIsLeast = (s : State) (a : ℕ) → IsWellFormed s → IsLeastWith (HoldsReached s.graph a) (reach s.graph a)

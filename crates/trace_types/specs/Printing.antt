@@ -75,7 +75,8 @@ object_line numbers birth (Some o) =
 unfoldable pub print_text : Graph → Value → List ℕ
 print_text graph v =
     let numbers = numbering graph v in
-    codes "= " ++ value_text numbers v ++ 10 ∷ [] ++ flat_map (λ birth. object_line numbers birth (object_at graph birth)) numbers
+    codes "= " ++ value_text numbers v ++ 10 ∷ []
+    ++ flat_map (λ birth. object_line numbers birth (object_at graph birth)) numbers
 
 -- ---- census
 
@@ -97,7 +98,8 @@ census graph =
 abbrev pub census_lines : ℕ → List (ℕ × ℕ) → List ℕ
 census_lines g [] = []
 census_lines g (pair ∷ pairs) =
-    (if pair.0 == 0 then [] else codes "g" ++ generation_word g ++ codes " " ++ decimal pair.0 ++ codes " " ++ decimal pair.1 ++ 10 ∷ [])
+    (if pair.0 == 0 then []
+    else codes "g" ++ generation_word g ++ codes " " ++ decimal pair.0 ++ codes " " ++ decimal pair.1 ++ 10 ∷ [])
     ++ census_lines (suc g) pairs
 
 -- a line for each generation with objects, in ascending order, the static one last

@@ -1,11 +1,11 @@
 //! Laws of the definitions, each the contract of a function that does nothing.
 
-ghost use Rattle.trace_types.specs.Laws.{LeastIsLeast, LeastGrows, LeastIsRenamed};
-ghost use Rattle.trace_types.specs.Laws.{AccessibleIsLeastClosed, EachPhaseGrows};
+ghost use Rattle.trace_types.specs.Laws.{LeastIsLeast, LeastGrows, LeastIsOfASet, LeastGoesOn, LeastIsRenamed};
+ghost use Rattle.trace_types.specs.Laws.{AccessibleIsLeastClosed, EachPhaseIsLeast, EachPhaseGrows};
 ghost use Rattle.trace_types.specs.Laws.{OpeningIsWellFormed, CollectKeepsWellFormed};
 ghost use Rattle.trace_types.specs.Laws.{StepKeepsWellFormed, StepLeavesNext, ReadFits, RunIsWellFormed, CensusAddsUp};
 ghost use Rattle.trace_types.specs.Laws.{PutIsFound, LeftIsFound, EachNewCounts, FieldKeepsCensus};
-ghost use Rattle.trace_types.specs.Laws.{PathIsFirst};
+ghost use Rattle.trace_types.specs.Laws.{PathIsFirst, ReachIsLeast};
 ghost use Rattle.trace_types.specs.Rows.{Hold};
 ghost use Rattle.trace_types.specs.worked.Weak.{weak_rows};
 ghost use Rattle.trace_types.specs.worked.Guardians.{guardian_rows};
@@ -18,17 +18,21 @@ ghost use Rattle.trace_types.specs.worked.Forms.{form_rows};
 ghost use Rattle.trace_types.specs.worked.Workloads.{workload_rows, DrawsFirst};
 
 /// What the least set of a list of rules is: it meets each rule and is in each set that does. It grows
-/// with the rules, and another name for each object is another name for each member.
+/// with the rules, and depends on them as a set. Further rules go on from what is there already. And
+/// another name for each object is another name for each member.
 pub fn least_sets()
     ensures least { LeastIsLeast }
     ensures grows { LeastGrows }
+    ensures of_a_set { LeastIsOfASet }
+    ensures goes_on { LeastGoesOn }
     ensures renamed { LeastIsRenamed }
 {}
 
-/// What a collection keeps: the accessible objects are the least closed set with the roots, and each
-/// further phase only adds to them.
+/// What a collection keeps: the accessible objects are the least closed set with the roots, and the set of
+/// each further phase is the least of its kind, which only adds to the one before.
 pub fn phases()
     ensures accessible { AccessibleIsLeastClosed }
+    ensures least { EachPhaseIsLeast }
     ensures grow { EachPhaseGrows }
 {}
 
@@ -52,9 +56,10 @@ pub fn graphs()
 {}
 
 /// What the path finder finds: of the walks along strong references the shortest, and of these the first.
-/// It finds none only where there is none.
+/// It finds none only where there is none. And what is reached, that is, held.
 pub fn paths()
-    ensures { PathIsFirst }
+    ensures path { PathIsFirst }
+    ensures reach { ReachIsLeast }
 {}
 
 /// The worked rows: each trace prints and ends as its row says.
