@@ -6,8 +6,10 @@
 //! is searched twice. A line is ended by the byte 10; bytes after the last one are a line too. A line of more than 1,024
 //! bytes is too long.
 //!
-//! [`read_command`] reads the fields of a line from left to right, by the grammar that `trace_types` defines, and answers
-//! nothing, one command, or the first fault.
+//! [`read_command`] gives the command of a line, nothing for an empty line and a comment, or the first fault, exactly as
+//! the definition `read` of `trace_types` says. From the bottom: `numeral` reads numerals, `operands` has a function for
+//! each class of operands, `fields` splits, `shapes` reads what several commands take alike, `rows` has a function for
+//! each command, and `command` finds it by its word.
 //!
 //! Only [`LineReader::new`] takes memory. All of this is this project's own.
 #![tactic(auto)]
