@@ -22,6 +22,7 @@ indexed n (v ∷ vs) = map (λ x. (n, x)) (objects_in (v ∷ [])) ++ indexed (su
 abbrev pub steps : Object → List (ℕ × ℕ)
 steps o = indexed (first_index o.kind) (strong_values o)
 
+-- the steps of an object that was looked up
 abbrev pub steps_at : Option Object → List (ℕ × ℕ)
 steps_at None = []
 steps_at (Some o) = steps o
@@ -54,6 +55,7 @@ abbrev pub step_at : List (ℕ × ℕ) → ℕ → Option ℕ
 step_at [] index = None
 step_at (s ∷ rest) index = if s.0 == index then Some s.1 else step_at rest index
 
+-- the same from an object of the graph
 abbrev pub next_of : Graph → Option ℕ → ℕ → Option ℕ
 next_of graph None index = None
 next_of graph (Some a) index = step_at (steps_at (object_at graph a)) index

@@ -58,10 +58,12 @@ abbrev pub is_of_kind : (Kind → Bool) → Option Object → Bool
 is_of_kind test None = false
 is_of_kind test (Some o) = test o.kind
 
+-- unordered guardians are the default ones
 abbrev pub is_unordered_kind : Kind → Bool
 is_unordered_kind Guard = true
 is_unordered_kind _ = false
 
+-- ordered guardians
 abbrev pub is_ordered_kind : Kind → Bool
 is_ordered_kind OrderedGuard = true
 is_ordered_kind _ = false
@@ -119,6 +121,7 @@ waited_for s cg = least (rules s ++ roots s cg ++ served s cg ++ as_though s cg)
 abbrev pub is_ready : State → ℕ → Registration → Bool
 is_ready s cg r = is_candidate s cg r && is_outside (waited_for s cg) r.object
 
+-- the candidates that are ready
 abbrev pub ready : State → ℕ → List Registration
 ready s cg = filter (is_ready s cg) s.registrations
 

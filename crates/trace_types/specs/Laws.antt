@@ -23,6 +23,7 @@ pub record IsLeast (rules : List Rule) (set : List ℕ) : Type 0 where
   pub meets_each : MeetsAll set rules
   pub below_each : (other : List ℕ) → MeetsAll other rules → set ⊆ other
 
+-- of each list of rules
 abbrev pub LeastIsLeast : Type 0
 LeastIsLeast = (rules : List Rule) → IsLeast rules (least rules)
 
@@ -30,6 +31,7 @@ LeastIsLeast = (rules : List Rule) → IsLeast rules (least rules)
 abbrev pub LeastGrows : Type 0
 LeastGrows = (rules others : List Rule) → IsAmong rules others → least rules ⊆ least others
 
+-- the same set of rules, the same members
 abbrev pub LeastIsOfASet : Type 0
 LeastIsOfASet = (rules others : List Rule) → IsAmong rules others → IsAmong others rules → (x : ℕ)
     → has (least rules) x ≡ has (least others) x
@@ -43,6 +45,7 @@ LeastGoesOn = (rules more : List Rule) (x : ℕ)
 abbrev pub renamed : (ℕ → ℕ) → List Rule → List Rule
 renamed name rules = map (λ (r : Rule). record { premises = map name r.premises; conclusion = name r.conclusion }) rules
 
+-- the objects that the rules name
 abbrev pub mentioned : List Rule → List ℕ
 mentioned rules = flat_map (λ r. r.conclusion ∷ r.premises) rules
 
@@ -64,6 +67,7 @@ pub record IsAccessible (s : State) (cg : ℕ) (set : List ℕ) : Type 0 where
   pub below_each : (other : List ℕ) → IsClosed s other
       → (objects_in s.registers ++ locked s ++ older s cg) ⊆ other → set ⊆ other
 
+-- in each well-formed state
 abbrev pub AccessibleIsLeastClosed : Type 0
 AccessibleIsLeastClosed = (s : State) (cg : ℕ) → IsWellFormed s → IsAccessible s cg (accessible s cg)
 
@@ -73,6 +77,7 @@ pub record PhasesAreLeast (s : State) (cg : ℕ) : Type 0 where
   pub waited : IsLeastWith (HoldsAsked s cg) (waited_for s cg)
   pub kept : IsLeastWith (HoldsKept s cg) (kept s cg)
 
+-- in each well-formed state
 abbrev pub EachPhaseIsLeast : Type 0
 EachPhaseIsLeast = (s : State) (cg : ℕ) → IsWellFormed s → PhasesAreLeast s cg
 
@@ -82,18 +87,22 @@ pub record PhasesGrow (s : State) (cg : ℕ) : Type 0 where
   pub waited : accessible_or_served s cg ⊆ waited_for s cg
   pub kept : waited_for s cg ⊆ kept s cg
 
+-- in each state
 abbrev pub EachPhaseGrows : Type 0
 EachPhaseGrows = (s : State) (cg : ℕ) → PhasesGrow s cg
 
 -- ---- well-formed states
 
+-- where a trace begins, the state is well formed
 abbrev pub OpeningIsWellFormed : Type 0
 OpeningIsWellFormed = (oldest : ℕ) → 1 ≤ oldest → oldest ≤ 7 → IsWellFormed (opening oldest)
 
+-- a collection with allowed arguments keeps a state well formed
 abbrev pub CollectKeepsWellFormed : Type 0
 CollectKeepsWellFormed = (s : State) (a : Arguments) → IsWellFormed s
     → IsTrue (are_allowed s.version s.oldest a) → IsWellFormed (collect s a)
 
+-- a command that is not refused keeps a state well formed
 abbrev pub StepKeepsWellFormed : Type 0
 StepKeepsWellFormed =
     (s s' : State) (line : ℕ) (c : Command) (text : List ℕ) → IsWellFormed s → IsNext s line → IsTrue (operands_fit c)
@@ -122,6 +131,7 @@ pub record AddsUp (graph : Graph) : Type 0 where
   pub objects : sum_by (λ counts. counts.0) (census graph) ≡ length graph
   pub words : sum_by (λ counts. counts.1) (census graph) ≡ words_of graph
 
+-- in each well-formed state
 abbrev pub CensusAddsUp : Type 0
 CensusAddsUp = (s : State) → IsWellFormed s → AddsUp s.graph
 
@@ -146,6 +156,7 @@ pub record NewCounts (s : State) (line d : ℕ) (kind : Kind) (fields : List Val
   pub words : (g : ℕ)
       → words_of (of_generation g (with_new s line d kind fields).graph) ≡ words_of (of_generation g s.graph) + (if g == 0 then size_of kind fields else 0)
 
+-- with a line above every number of the state
 abbrev pub EachNewCounts : Type 0
 EachNewCounts = (s : State) (line d : ℕ) (kind : Kind) (fields : List Value) → AllBefore s line
     → NewCounts s line d kind fields
@@ -164,6 +175,7 @@ pub record FindsPath (graph : Graph) (a b : ℕ) : Type 0 where
   pub none : ◌≡◌ {A = Option (List ℕ)} (path graph a b) None → (walk : List ℕ)
       → led graph (Some a) walk ≡ Some b → ⊥
 
+-- to each object of a graph
 abbrev pub PathIsFirst : Type 0
 PathIsFirst = (graph : Graph) (a b : ℕ) (o : Object) → object_at graph b ≡ Some o → FindsPath graph a b
 

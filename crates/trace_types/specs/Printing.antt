@@ -14,6 +14,7 @@ use Rattle.trace_types.specs.Rules.{has}
 abbrev pub contents : Object → List Value
 contents o = if is_guardian o.kind then queue_values o else o.fields
 
+-- the same of an object that was looked up
 abbrev pub contents_at : Option Object → List Value
 contents_at None = []
 contents_at (Some o) = contents o

@@ -26,6 +26,7 @@ prints limits trace text = record { limits = limits; trace = trace; text = text;
 abbrev pub refused : Limits → List ℕ → List ℕ → ℕ → Fault → Row
 refused limits trace text line fault = record { limits = limits; trace = trace; text = text; stop = Some (line, fault) }
 
+-- the text and the end of a run
 abbrev pub outcome : Ran State → List ℕ × Option (ℕ × Fault)
 outcome ran = (ran.text, ran.stop)
 

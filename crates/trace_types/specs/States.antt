@@ -54,9 +54,11 @@ opening oldest = record {
 
 -- ---- parts of a state
 
+-- what a register holds
 abbrev pub register_value : State → ℕ → Value
 register_value s r = slice_index_or s.registers r nil
 
+-- the state with another value in a register
 abbrev pub with_register : State → ℕ → Value → State
 with_register s r v = record s { registers = set s.registers r v }
 
@@ -84,6 +86,7 @@ new_object s kind fields = record { kind = kind; creator = s.thread; generation 
 abbrev pub with_new : State → ℕ → ℕ → Kind → List Value → State
 with_new s line d kind fields = with_register (with_object s line (new_object s kind fields)) d (object line)
 
+-- what is not there counts 0
 abbrev pub or_zero : Option ℕ → ℕ
 or_zero None = 0
 or_zero (Some n) = n

@@ -12,11 +12,13 @@ entry_kind Pair = kinds.Pair
 entry_kind Weak = kinds.Weak
 entry_kind Eph = kinds.Eph
 
+-- any vector is a table
 abbrev pub is_table : Kind → Bool
 is_table kinds.Vector = true
 is_table kinds.ImmVector = true
 is_table _ = false
 
+-- what may be an entry
 abbrev pub is_entry : Kind → Bool
 is_entry kinds.Pair = true
 is_entry kinds.Weak = true

@@ -72,20 +72,24 @@ abbrev pub object_of_value : Graph → Value → Option Object
 object_of_value graph (object birth) = object_at graph birth
 object_of_value graph _ = None
 
+-- guardians of both orders
 abbrev pub is_guardian : Kind → Bool
 is_guardian Guard = true
 is_guardian OrderedGuard = true
 is_guardian _ = false
 
+-- ephemeron pairs
 abbrev pub is_ephemeron : Kind → Bool
 is_ephemeron Eph = true
 is_ephemeron _ = false
 
+-- kinds that no collection moves
 abbrev pub is_immobile : Kind → Bool
 is_immobile ImmVector = true
 is_immobile ImmBytes = true
 is_immobile _ = false
 
+-- kinds whose fields are bytes
 abbrev pub has_bytes : Kind → Bool
 has_bytes Bytes = true
 has_bytes ImmBytes = true
@@ -95,12 +99,15 @@ has_bytes _ = false
 abbrev pub field_at : Object → ℕ → Value
 field_at o index = slice_index_or o.fields index nil
 
+-- the key of an ephemeron, and of an entry of a table
 abbrev pub key_of : Object → Value
 key_of o = field_at o 0
 
+-- the value of an ephemeron, and of an entry of a table
 abbrev pub value_of : Object → Value
 value_of o = field_at o 1
 
+-- the values that wait in the queue
 abbrev pub queue_values : Object → List Value
 queue_values o = map (λ entry. entry.0) o.queue
 
@@ -122,6 +129,7 @@ strong_references o = objects_in (strong_values o)
 
 -- ---- sizes
 
+-- the next even number
 abbrev pub rounded_up : ℕ → ℕ
 rounded_up n = (n + 1) / 2 * 2
 

@@ -17,16 +17,20 @@ use Rattle.trace_types.specs.Reading.{is_register}
 
 -- ---- what is named and numbered
 
+-- the objects of the graph
 abbrev pub births : State → List ℕ
 births s = map (λ entry. entry.0) s.graph
 
+-- the object that a note is set to
 abbrev pub noted : Note → List ℕ
 noted (set_to birth) = birth ∷ []
 noted _ = []
 
+-- the births in its fields and queue
 abbrev pub named_by_object : ℕ × Object → List ℕ
 named_by_object entry = objects_in (entry.1.fields ++ queue_values entry.1)
 
+-- its guardian, and its object and representative where these are objects
 abbrev pub named_by_registration : Registration → List ℕ
 named_by_registration r = r.guardian ∷ objects_in (r.object ∷ r.representative ∷ [])
 
@@ -36,6 +40,7 @@ named s =
     flat_map named_by_object s.graph ++ objects_in s.registers ++ locked s ++ flat_map noted s.notes
     ++ flat_map named_by_registration s.registrations
 
+-- in the order of the list
 abbrev pub registration_lines : State → List ℕ
 registration_lines s = map (λ r. r.line) s.registrations
 
@@ -48,6 +53,7 @@ abbrev pub occurrences : ℕ → List ℕ → ℕ
 occurrences n [] = 0
 occurrences n (x ∷ xs) = (if x == n then 1 else 0) + occurrences n xs
 
+-- the greatest number of a line
 abbrev pub greatest_line : ℕ
 greatest_line = 1073741823
 
@@ -77,6 +83,7 @@ fields_fit kind fields = if has_bytes kind then list_all is_byte fields else lis
 abbrev pub is_generation : ℕ → ℕ → ℕ → Bool
 is_generation version oldest g = nat_le g oldest || version == 2 && g == static_generation
 
+-- an object as it may stand in a graph
 pub record IsObject (version oldest : ℕ) (o : Object) : Type 0 where
   pub fields : IsTrue (has_its_fields o.kind o.fields)
   pub fitting : IsTrue (fields_fit o.kind o.fields)
@@ -129,6 +136,7 @@ abbrev pub operand_fits : Operand → Bool
 operand_fits (Fixnum n) = is_fixnum n
 operand_fits _ = true
 
+-- where there is one, it is in range
 abbrev pub representative_fits : Option Operand → Bool
 representative_fits None = true
 representative_fits (Some operand) = operand_fits operand

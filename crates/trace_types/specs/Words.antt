@@ -5,6 +5,7 @@ use Rattle.trace_types.specs.declared.kind.Kind.TheVariants.{Pair, Weak, Eph, Bo
 use Rattle.trace_types.specs.declared.fault.Fault.{Fault}
 use Rattle.trace_types.specs.declared.fault.Fault.TheVariants.{TooLong, TooManyLines, NotText, UnknownCommand, OperandCount, BadRegister, BadNumber, BadThread, WrongKind, BadIndex, BadLength, NotLocked, NotFixed, BadNote, BadGeneration, TableFull}
 
+-- the word of a kind in traces and prints
 abbrev pub kind_word : Kind → List ℕ
 kind_word Pair = codes "pair"
 kind_word Weak = codes "weak"
@@ -18,6 +19,7 @@ kind_word Guard = codes "guard"
 kind_word OrderedGuard = codes "oguard"
 kind_word Cell = codes "cell"
 
+-- the text of a fault in a message
 abbrev pub fault_text : Fault → List ℕ
 fault_text TooLong = codes "line too long"
 fault_text TooManyLines = codes "too many lines"
