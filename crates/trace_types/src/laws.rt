@@ -5,7 +5,7 @@ ghost use Rattle.trace_types.specs.Laws.{AccessibleIsLeastClosed, EachPhaseIsLea
 ghost use Rattle.trace_types.specs.Laws.{OpeningIsWellFormed, CollectKeepsWellFormed};
 ghost use Rattle.trace_types.specs.Laws.{StepKeepsWellFormed, StepLeavesNext, ReadFits, RunIsWellFormed, CensusAddsUp};
 ghost use Rattle.trace_types.specs.Laws.{PutIsFound, LeftIsFound, EachNewCounts, FieldKeepsCensus};
-ghost use Rattle.trace_types.specs.Laws.{PathIsFirst, ReachIsLeast};
+ghost use Rattle.trace_types.specs.Laws.{PathIsFirst, ReachIsLeast, EachIsWorkload};
 ghost use Rattle.trace_types.specs.Rows.{Hold};
 ghost use Rattle.trace_types.specs.worked.Weak.{weak_rows};
 ghost use Rattle.trace_types.specs.worked.Guardians.{guardian_rows};
@@ -60,6 +60,11 @@ pub fn graphs()
 pub fn paths()
     ensures path { PathIsFirst }
     ensures reach { ReachIsLeast }
+{}
+
+/// What a workload is: as many lines as were asked for, none of which is too long.
+pub fn workloads()
+    ensures { EachIsWorkload }
 {}
 
 /// The worked rows: each trace prints and ends as its row says.
