@@ -25,11 +25,11 @@ plain_from (b ∷ bs) h =
 abbrev is_piece : List ℕ → Bool
 is_piece w = is_plain w && nat_le (length w) 8
 
-abbrev all_below : (ℕ → Bool) → ℕ → Bool
+abbrev pub all_below : (ℕ → Bool) → ℕ → Bool
 all_below test zero = true
 all_below test (suc n) = test n && all_below test n
 
-at_below : (test : ℕ → Bool) (k n : ℕ) → IsTrue (all_below test k) → n < k → IsTrue (test n)
+pub at_below : (test : ℕ → Bool) (k n : ℕ) → IsTrue (all_below test k) → n < k → IsTrue (test n)
 at_below test zero n h less = absurd (omega arith)
 at_below test (suc k) n h less =
     let parts = and_parts (test k) (all_below test k) h in
@@ -171,3 +171,38 @@ workload_lines number count =
       so_many = so_many count 1 number;
       short = All-from_recursion _ (workload_from count 1 number) (each_weaker IsLine (λ line. length line ≤ 1024) (λ line h. h.short) (workload_from count 1 number) each);
     }
+
+-- ---- how long a line is
+
+short_piece : (w : List ℕ) → IsTrue (is_piece w) → length w ≤ 8
+short_piece w h = leb-true (length w) 8 (and_parts (is_plain w) (nat_le (length w) 8) h).1
+
+pub number_short : (n : ℕ) → n < 68 → length (decimal n) ≤ 8
+number_short n h = short_piece (decimal n) (number_piece n h)
+
+pub register_short : (n : ℕ) → n < 68 → length (reg n) ≤ 8
+register_short n h = short_piece (reg n) (register_piece n h)
+
+pub two_short : (a b : List ℕ) → length a ≤ 8 → length b ≤ 8 → length (words (a ∷ b ∷ [])) ≤ 1024
+two_short a b h i =
+    let whole = length-append (a ++ codes " ") b in
+    let front = length-append a (codes " ") in
+    omega (arith, whole, front)
+
+pub three_short : (a b c : List ℕ) → length a ≤ 8 → length b ≤ 8 → length c ≤ 8 → length (words (a ∷ b ∷ c ∷ [])) ≤ 1024
+three_short a b c h i j =
+    let whole = length-append (a ++ codes " ") (words (b ∷ c ∷ [])) in
+    let front = length-append a (codes " ") in
+    let rest = length-append (b ++ codes " ") c in
+    let second = length-append b (codes " ") in
+    omega (arith, whole, front, rest, second)
+
+pub four_short : (a b c d : List ℕ) → length a ≤ 8 → length b ≤ 8 → length c ≤ 8 → length d ≤ 8 → length (words (a ∷ b ∷ c ∷ d ∷ [])) ≤ 1024
+four_short a b c d h i j k =
+    let whole = length-append (a ++ codes " ") (words (b ∷ c ∷ d ∷ [])) in
+    let front = length-append a (codes " ") in
+    let rest = length-append (b ++ codes " ") (words (c ∷ d ∷ [])) in
+    let second = length-append b (codes " ") in
+    let last = length-append (c ++ codes " ") d in
+    let third = length-append c (codes " ") in
+    omega (arith, whole, front, rest, second, last, third)

@@ -1,6 +1,7 @@
 -- What the laws of these definitions say. Each is the contract of a public function that does nothing.
 use Rattle.std.specs.Prelude.{◌≡◌, ℕ, ◌+◌, ◌≤◌, ◌==◌, List, [], ◌∷◌, ◌++◌, length, map, flat_map, sum_by, All, IsTrue, Option, Some, None, Ok, option_map, if◌then◌else◌}
 use Rattle.trace_types.specs.declared.kind.Kind.{Kind}
+use Rattle.trace_types.specs.declared.fault.Fault.{Fault}
 use Rattle.trace_types.specs.declared.command.Command.{Command}
 use Rattle.trace_types.specs.Values.{Value, Object, Graph, objects_in, object_at, size_of}
 use Rattle.trace_types.specs.States.{State, opening, locked, with_object, with_field, new_object, with_new}
@@ -196,3 +197,10 @@ pub record IsWorkload (number count : ℕ) : Type 0 where
 -- of each number and count
 abbrev pub EachIsWorkload : Type 0
 EachIsWorkload = (number count : ℕ) → IsWorkload number count
+
+-- no line of a workload is refused
+abbrev pub WorkloadsAreAccepted : Type 0
+WorkloadsAreAccepted =
+    (limits : Limits) (number count : ℕ) → 1 ≤ limits.generations → limits.generations ≤ 7
+    → limits.max_lines ≤ greatest_line → count ≤ limits.max_lines
+    → ◌≡◌ {A = Option (ℕ × Fault)} (run step limits (generated number count)).stop None
