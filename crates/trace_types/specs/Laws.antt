@@ -1,6 +1,7 @@
 -- What the laws of these definitions say. Each is the contract of a public function that does nothing.
-use Rattle.std.specs.Prelude.{◌≡◌, ℕ, ◌+◌, ◌≤◌, ◌==◌, List, [], ◌∷◌, ◌++◌, length, map, flat_map, sum_by, IsTrue, Option, Some, None, Ok, option_map, if◌then◌else◌}
+use Rattle.std.specs.Prelude.{◌≡◌, ℕ, ◌+◌, ◌≤◌, ◌==◌, List, [], ◌∷◌, ◌++◌, length, map, flat_map, sum_by, All, IsTrue, Option, Some, None, Ok, option_map, if◌then◌else◌}
 use Rattle.trace_types.specs.declared.kind.Kind.{Kind}
+use Rattle.trace_types.specs.declared.fault.Fault.{Fault}
 use Rattle.trace_types.specs.declared.command.Command.{Command}
 use Rattle.trace_types.specs.Values.{Value, Object, Graph, objects_in, object_at, size_of}
 use Rattle.trace_types.specs.States.{State, opening, locked, with_object, with_field, new_object, with_new}
@@ -13,6 +14,8 @@ use Rattle.trace_types.specs.Printing.{census, of_generation, words_of}
 use Rattle.trace_types.specs.Finder.{path, led, IsPath, reach, HoldsReached}
 use Rattle.trace_types.specs.Steps.{step}
 use Rattle.trace_types.specs.Reading.{read}
+use Rattle.trace_types.specs.Lines.{lines_of}
+use Rattle.trace_types.specs.Workloads.{generated, workload_from}
 use Rattle.trace_types.specs.Runs.{run}
 use Rattle.trace_types.specs.declared.limits.Limits.{Limits}
 
@@ -182,3 +185,22 @@ PathIsFirst = (graph : Graph) (a b : ℕ) (o : Object) → object_at graph b ≡
 -- what is reached is the least set that holds the object and what a step of a member leads to
 abbrev pub ReachIsLeast : Type 0
 ReachIsLeast = (s : State) (a : ℕ) → IsWellFormed s → IsLeastWith (HoldsReached s.graph a) (reach s.graph a)
+
+-- ---- workloads
+
+-- the lines of a workload are those that were generated, so many as were asked for, and none is too long
+pub record IsWorkload (number count : ℕ) : Type 0 where
+  pub lines : lines_of (generated number count) ≡ workload_from count 1 number
+  pub so_many : length (workload_from count 1 number) ≡ count
+  pub short : All (λ line. length line ≤ 1024) (workload_from count 1 number)
+
+-- of each number and count
+abbrev pub EachIsWorkload : Type 0
+EachIsWorkload = (number count : ℕ) → IsWorkload number count
+
+-- no line of a workload is refused
+abbrev pub WorkloadsAreAccepted : Type 0
+WorkloadsAreAccepted =
+    (limits : Limits) (number count : ℕ) → 1 ≤ limits.generations → limits.generations ≤ 7
+    → limits.max_lines ≤ greatest_line → count ≤ limits.max_lines
+    → ◌≡◌ {A = Option (ℕ × Fault)} (run step limits (generated number count)).stop None

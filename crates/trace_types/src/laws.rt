@@ -6,6 +6,7 @@ ghost use Rattle.trace_types.specs.Laws.{OpeningIsWellFormed, CollectKeepsWellFo
 ghost use Rattle.trace_types.specs.Laws.{StepKeepsWellFormed, StepLeavesNext, ReadFits, RunIsWellFormed, CensusAddsUp};
 ghost use Rattle.trace_types.specs.Laws.{PutIsFound, LeftIsFound, EachNewCounts, FieldKeepsCensus};
 ghost use Rattle.trace_types.specs.Laws.{PathIsFirst, ReachIsLeast};
+ghost use Rattle.trace_types.specs.Laws.{EachIsWorkload, WorkloadsAreAccepted};
 ghost use Rattle.trace_types.specs.Rows.{Hold};
 ghost use Rattle.trace_types.specs.worked.Weak.{weak_rows};
 ghost use Rattle.trace_types.specs.worked.Guardians.{guardian_rows};
@@ -60,6 +61,13 @@ pub fn graphs()
 pub fn paths()
     ensures path { PathIsFirst }
     ensures reach { ReachIsLeast }
+{}
+
+/// What a workload is: as many lines as were asked for, none of which is too long. And none of them is
+/// refused, since the registers that a line uses hold what it needs.
+pub fn workloads()
+    ensures lines { EachIsWorkload }
+    ensures accepted { WorkloadsAreAccepted }
 {}
 
 /// The worked rows: each trace prints and ends as its row says.

@@ -22,8 +22,8 @@ pub enum Mode {
     Eph,
 }
 
-/// The arguments of a collection, as Chez Scheme's `collect` takes them: the oldest generation that
-/// is collected, and the youngest and the oldest that a survivor goes to.
+/// The arguments of a collection: the oldest generation that is collected, and the youngest and the
+/// oldest that a survivor goes to. Which are allowed, and what no arguments mean, is this project's own.
 ///
 /// `Plain` asks for the arguments that belong to the number of plain collections so far. In `Explicit`
 /// each is a generation from 0 to 7, and `min` and `max` may also be 8, the static generation.
