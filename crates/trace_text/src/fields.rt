@@ -1,6 +1,6 @@
 //! The fields of a line, which is split at each space.
 
-ghost use Rattle.std.specs.Prelude.{◌≡◌, ◌≢◌, ◌==◌, [], ◌∷◌, length, MatchOption, MatchResult, IsTrue, ◌↔◌, position};
+ghost use Rattle.std.specs.Prelude.{◌≡◌, ◌≢◌, ◌<◌, ◌==◌, [], ◌∷◌, length, MatchOption, MatchResult, IsTrue, ◌↔◌, position};
 
 use std::marker::Model;
 use trace_types::Fault;
@@ -111,13 +111,12 @@ impl<'a> Fields<'a> {
         Ok((first, second, Some(third)))
     }
 
-    /// The five fields that are left, where there are just five.
-    pub fn five(mut self) -> Result<(&'a [u8], &'a [u8], &'a [u8], &'a [u8], &'a [u8]), Fault>
-        ensures { MatchResult result (λ r. self.entry ≡ r.0.now ∷ r.1.now ∷ r.2.now ∷ r.3.now ∷ r.4.now ∷ []) (λ fault. (fault ≡ Fault.OperandCount) × (length self.entry ≢ 5)) }
+    /// The first two fields, and the others that are left.
+    pub fn two_and_others(mut self) -> Result<(&'a [u8], &'a [u8], Fields<'a>), Fault>
+        ensures { MatchResult result (λ r. self.entry ≡ r.0.now ∷ r.1.now ∷ r.2) (λ fault. (fault ≡ Fault.OperandCount) × (length self.entry < 2)) }
     {
         let first = self.next().ok_or(Fault::OperandCount)?;
         let second = self.next().ok_or(Fault::OperandCount)?;
-        let (third, fourth, fifth) = self.three()?;
-        Ok((first, second, third, fourth, fifth))
+        Ok((first, second, self))
     }
 }

@@ -220,7 +220,8 @@ pub fn read_version(operands: Fields) -> Result<Command, Fault>
 pub fn read_tput(operands: Fields) -> Result<Command, Fault>
     ensures { result ≡ table_put operands.entry }
 {
-    let (first, second, third, fourth, fifth) = operands.five()?;
+    let (first, second, others) = operands.two_and_others()?;
+    let (third, fourth, fifth) = others.three()?;
     let d = read_register(first)?;
     let table = read_register_but(d, second)?;
     let mode = read_mode(third)?;
