@@ -16,6 +16,8 @@
 #![tactic(auto)]
 
 mod hints;
+#[cfg(test)]
+mod meeting;
 mod plays;
 mod ring;
 mod seat;

@@ -1,4 +1,6 @@
-use crate::{ForwardTable, hint_ring};
+//! The worked example of two ranges of three, and of a ring of capacity 1.
+
+use crate::{ForwardTable, claim_all, hint_ring};
 use gc_words::Address;
 use std::test::Fail;
 
@@ -27,5 +29,14 @@ fn a_ring_of_one_takes_one(rt: HostRuntime) -> Result<(), Fail> {
     assert!(rt; receiver.beside(&mut sender) == 1);
     assert!(rt; receiver.next_hint() == Some(one));
     assert!(rt; receiver.next_hint().is_none());
+    Ok(())
+}
+
+#[test]
+fn each_range_has_a_seat(rt: HostRuntime) -> Result<(), Fail> {
+    let alloc = rt.alloc();
+    let (table, first) = ForwardTable::new(alloc, &[3, 0, 2])?;
+    let seats = claim_all(alloc, &table, first, 3)?;
+    assert_eq!(rt; seats.len(), 3);
     Ok(())
 }
