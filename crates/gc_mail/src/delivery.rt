@@ -41,14 +41,14 @@ pub fn exchange<M: Ledger>(
 /// these numbers.
 fn inbox_sizes(
     alloc: Global,
-    outboxes: &Vec<Outbox>,
+    sent: &Vec<Outbox>,
     sweepers: u32,
 ) -> Result<Vec<usize>, AllocError>
-    requires { vec_len outboxes.now ≡ sweepers }
+    requires { vec_len sent.now ≡ sweepers }
     ensures { IfOk result (λ sizes. vec_len sizes ≡ sweepers) }
 {
     let mut sizes = no_sizes(alloc, sweepers)?;
-    for outbox in outboxes {
+    for outbox in sent {
         add_sizes(&mut sizes, sweepers, outbox);
     }
     Ok(sizes)

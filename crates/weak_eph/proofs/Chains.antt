@@ -1,12 +1,13 @@
 -- What adding a place to a chain and taking its first place away make of it.
-use Rattle.std.proofs.Common.{◌≡◌, ◌≢◌, ℕ, ◌<◌, ◌≤◌, Bool, true, false, refl, sym, ◌∙◌, ap, subst, arith, inl, inr}
+use Rattle.std.proofs.Common.{◌≡◌, ◌≢◌, ℕ, ◌<◌, ◌≤◌, Bool, true, false, refl, sym, ◌∙◌, ap, subst, arith, rules, inl, inr}
 use Rattle.std.proofs.lemmas.Bool.{cases_eq, cases_lt}
 use Rattle.std.specs.Prelude.{Option, Some, None}
 use Rattle.weak_eph.specs.declared.watches.Chain.{Chain}
 use Rattle.weak_eph.specs.Watching.{IsChain, IsChainOf}
 
 pub not_both : (b : Bool) → b ≡ true → b ≡ false → ⊥
-not_both b t f = search (t, f)
+not_both true t f = search (rules, f)
+not_both false t f = search (rules, t)
 
 pub not_true : (b : Bool) → (b ≡ true → ⊥) → b ≡ false
 not_true true h = absurd (h refl)

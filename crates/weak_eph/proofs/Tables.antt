@@ -51,16 +51,24 @@ module _ {B : Type 0} where
   passed_remove key k None ps h = refl
   passed_remove key k (Some b) ps h = let no : eqb key k ≡ false = search (rules, h) in rw no refl
 
+  here_lookup : (key k : ℕ) (b : Option B) (ps : List (ℕ × B)) → (eqb key k && is_some b) ≡ true → lookup (eqb key) (before k b ps) ≡ b
+  here_lookup key k None ps h = search (rules, h)
+  here_lookup key k (Some b) ps h = let yes : eqb key k ≡ true = search (rules, h) in rw yes refl
+
+  here_remove : (key k : ℕ) (b : Option B) (ps : List (ℕ × B)) → (eqb key k && is_some b) ≡ true → ps ≡ remove_entry (eqb key) (before k b ps)
+  here_remove key k None ps h = search (rules, h)
+  here_remove key k (Some b) ps h = let yes : eqb key k ≡ true = search (rules, h) in rw yes refl
+
   -- the first place that waits for a key has the first back of that key
   pub lookup-waiting : (es : List (Entry B)) (key i : ℕ) (e : Entry B) → slice_get es i ≡ Some e → waits_at es key i ≡ true → ((j : ℕ) → j < i → waits_at es key j ≡ false) → lookup (eqb key) (waiting es) ≡ e.back
   lookup-waiting [] key i e h t n = search (rules, h)
-  lookup-waiting (x ∷ es) key zero e h t n = ?
+  lookup-waiting (x ∷ es) key zero e h t n = let same : x ≡ e = search (rules, h) in here_lookup key x.key x.back (waiting es) t ∙ ap (λ y. y.back) same
   lookup-waiting (x ∷ es) key (suc i) e h t n = passed_lookup key x.key x.back (waiting es) (n 0 (omega arith)) ∙ lookup-waiting es key i e h t (λ j l. n (suc j) (omega (arith, l)))
 
   -- and the pairs without it are those that wait once it was taken
   pub remove-waiting : (es : List (Entry B)) (key i : ℕ) (e d : Entry B) → slice_get es i ≡ Some e → waits_at es key i ≡ true → ((j : ℕ) → j < i → waits_at es key j ≡ false) → d.back ≡ None → waiting (set es i d) ≡ remove_entry (eqb key) (waiting es)
   remove-waiting [] key i e d h t n g = search (rules, h)
-  remove-waiting (x ∷ es) key zero e d h t n g = ?
+  remove-waiting (x ∷ es) key zero e d h t n g = ap (λ b. before d.key b (waiting es)) g ∙ here_remove key x.key x.back (waiting es) t
   remove-waiting (x ∷ es) key (suc i) e d h t n g = ap (before x.key x.back) (remove-waiting es key i e d h t (λ j l. n (suc j) (omega (arith, l))) g) ∙ sym (passed_remove key x.key x.back (waiting es) (n 0 (omega arith)))
 
   pub lookup-waiting_none : (es : List (Entry B)) (key : ℕ) → ((j : ℕ) → waits_at es key j ≡ false) → lookup (eqb key) (waiting es) ≡ None

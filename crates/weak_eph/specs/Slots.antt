@@ -1,5 +1,5 @@
 -- Weak slots, and what settling makes of them.
-use Rattle.std.specs.Prelude.{◌≡◌, ℕ, eqb, List, Option, Some, None, slice_get, slice_set}
+use Rattle.std.specs.Prelude.{◌≡◌, ℕ, zero, suc, eqb, List, [], ◌∷◌, Option, Some, None, slice_get}
 use Rattle.std.specs.Map.{lookup}
 use Rattle.weak_eph.specs.declared.fields.WeakSlot.{WeakSlot}
 use Rattle.weak_eph.specs.declared.fields.WeakState.{WeakState}

@@ -32,9 +32,9 @@ impl WeakFields for MemFields {
     }
 
     fn kept_at(&self, key: Address) -> Option<Address> {
-        for (kept, new) in &self.kept {
-            if *kept == key {
-                return Some(*new);
+        for pair in &self.kept {
+            if pair.0 == key {
+                return Some(pair.1);
             }
         }
         None

@@ -101,11 +101,12 @@ impl<B: Copy> Watches<B> {
             Some(chain) => {
                 let first = chain.first;
                 let back = self.entries[first].back;
+                let next = self.entries[first].next;
                 self.entries[first].back = None;
                 if first == chain.last {
                     let _ = self.index.remove(&word(key));
                 } else {
-                    chain.first = self.entries[first].next;
+                    chain.first = next;
                 }
                 back
             }
@@ -119,4 +120,47 @@ fn word(key: Address) -> u64
     ensures { result ≡ key * 8 + 1 }
 {
     encode(Value::Object(key))
+}
+
+#[cfg(test)]
+mod tests {
+    use super::*;
+    use std::test::Fail;
+
+    #[test]
+    fn first_added_first_taken(rt: HostRuntime) -> Result<(), Fail> {
+        let mut watches = Watches::new(rt.alloc());
+        watches.add(Address::at(5, 0, 2), 1)?;
+        watches.add(Address::at(5, 0, 2), 2)?;
+        let first: Option<u32> = watches.take(Address::at(5, 0, 2));
+        let second = watches.take(Address::at(5, 0, 2));
+        let third = watches.take(Address::at(5, 0, 2));
+        assert_eq!(rt; (first, second, third), (Some(1), Some(2), None));
+        Ok(())
+    }
+
+    #[test]
+    fn keys_apart(rt: HostRuntime) -> Result<(), Fail> {
+        let mut watches = Watches::new(rt.alloc());
+        for (key, back) in [(2, 1), (4, 2), (2, 3), (6, 4), (4, 5), (2, 6)] {
+            watches.add(Address::at(5, 0, key), back)?;
+        }
+        for (key, back) in [
+            (4, Some(2)),
+            (2, Some(1)),
+            (2, Some(3)),
+            (8, None),
+            (4, Some(5)),
+            (4, None),
+            (6, Some(4)),
+            (2, Some(6)),
+            (2, None),
+        ] {
+            let taken: Option<u8> = watches.take(Address::at(5, 0, key));
+            assert_eq!(rt; taken, back);
+        }
+        watches.add(Address::at(5, 0, 4), 7)?;
+        assert_eq!(rt; watches.take(Address::at(5, 0, 4)), Some(7));
+        Ok(())
+    }
 }
