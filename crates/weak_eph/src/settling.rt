@@ -28,48 +28,44 @@ mod tests {
     use crate::fields::{WeakSlot, WeakState};
     use crate::memory::MemFields;
     use gc_words::Address;
-    use std::alloc::{AllocError, Global};
     use std::test::Fail;
 
-    ghost use Rattle.std.specs.Prelude.{IfOk};
-
-    /// Slots that wait, one for each key.
-    fn waiting(alloc: Global, keys: [Address; 4]) -> Result<Vec<WeakSlot>, AllocError>
-        ensures { IfOk result (λ slots. All IsWaiting slots.items) }
+    /// A slot that waits for the key at this offset of a thread's segment 1.
+    fn waiting(thread: u8, offset: u32) -> WeakSlot
+        ensures { IsWaiting result }
     {
-        let mut slots = Vec::new(alloc);
-        for key in keys {
-            slots.push(WeakSlot {
-                key,
-                state: WeakState::Waiting,
-            })?;
+        WeakSlot {
+            key: place(thread, 1, offset),
+            state: WeakState::Waiting,
         }
-        Ok(slots)
+    }
+
+    fn place(thread: u8, segment: u64, offset: u32) -> Address {
+        Address::new(thread, segment, offset).unwrap_or(Address::at(0, 0, 0))
     }
 
     #[test]
     fn kept_keys_are_fixed_and_others_broken(rt: HostRuntime) -> Result<(), Fail> {
         let alloc = rt.alloc();
-        let keys = [
-            Address::at(0, 1, 2),
-            Address::at(0, 1, 4),
-            Address::at(63, 1, 2),
-            Address::at(0, 1, 2),
-        ];
-        let mut kept = Vec::new(alloc);
-        kept.push((Address::at(63, 1, 2), Address::at(63, 9, 0)))?;
-        kept.push((Address::at(0, 1, 2), Address::at(0, 8, 6)))?;
-        kept.push((Address::at(0, 1, 2), Address::at(0, 8, 8)))?;
-        let mut fields = MemFields {
-            slots: waiting(alloc, keys)?,
-            kept,
-        };
+        let slots = Vec::from_array(
+            alloc,
+            [waiting(0, 2), waiting(0, 4), waiting(63, 2), waiting(0, 2)],
+        )?;
+        let kept = Vec::from_array(
+            alloc,
+            [
+                (place(63, 1, 2), place(63, 9, 0)),
+                (place(0, 1, 2), place(0, 8, 6)),
+                (place(0, 1, 2), place(0, 8, 8)),
+            ],
+        )?;
+        let mut fields = MemFields { slots, kept };
         settle(&mut fields);
         for (n, state) in [
-            WeakState::Fixed(Address::at(0, 8, 6)),
+            WeakState::Fixed(place(0, 8, 6)),
             WeakState::Broken,
-            WeakState::Fixed(Address::at(63, 9, 0)),
-            WeakState::Fixed(Address::at(0, 8, 6)),
+            WeakState::Fixed(place(63, 9, 0)),
+            WeakState::Fixed(place(0, 8, 6)),
         ]
         .iter()
         .enumerate() {
