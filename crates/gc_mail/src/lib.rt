@@ -1,0 +1,21 @@
+//! Messages: what the sweepers of a collection tell each other between two rounds.
+//!
+//! Each object has one owner, the sweeper that works on its thread, and only the owner copies it. A sweeper
+//! that needs a foreign object writes a `Message` into its `Outbox`; `exchange` takes all outboxes and gives
+//! each message to its recipient's `Inbox`, by sender and then in the order of writing. For contracts an
+//! outbox and an inbox are lists of messages; `recipient_of` says who gets a message.
+//!
+//! Invariant: none beyond the lists, for an inbox and an outbox are just what was put into them. `send` and
+//! `exchange` take memory; `exchange` asks for each inbox's room at once, and so moves each message once.
+//! That owners ask each other by messages is as in Chez Scheme's parallel collector; the protocol and its
+//! words are this project's own.
+#![tactic(auto)]
+
+mod boxes;
+mod delivery;
+mod message;
+mod recipients;
+
+pub use boxes::{Inbox, Outbox};
+pub use delivery::exchange;
+pub use message::{Message, Slot};
