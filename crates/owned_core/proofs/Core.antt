@@ -8,9 +8,15 @@ use Rattle.std.proofs.lemmas.Map.Keys.{IsDistinct-push}
 use Rattle.std.specs.Cmp.{nat_eq_equiv}
 use Rattle.std.proofs.lemmas.List.Elements.{Contains-append_left, Contains-append_right, Contains-append_cases, Contains-push, Contains-push_cases, All-contains, All-weaker, All-contains_itself}
 use Rattle.trace_types.specs.Rules.{Rule, has, ◌⊆◌, least, meets, IsAmong, facts}
-use Rattle.owned_core.specs.Core.{Want, Keep, Watch, Stage, Asked, Heard, Answered, Told, Fixed, Slot, Standing, Due, is_keep, same_want, same_bool, same_slot, is_fixed, is_at, is_told_at, Setting, is_collected, member_list, rule_of, keeps, rules_of, Entry, State, in_list, is_taken, is_listed, is_swept, is_kept, is_there, is_fixed_watch, is_met, is_opened, is_due, begun, with_due, with_slots, Event, Forward, Sweep, Answer, Fix, Deliver, Learn, is_place_for, is_heard_keep, may_forward, may_answer, may_fix, may_learn, delivered, after_answer, after_fix, after_delivery, after_learning, moved, forwarded, swept, happens, run, is_sound_entry, is_vouched, Invariant, HasPlaces, rests, IsIdle, IsWatchFor, HasWatches, IsConfirmed, is_new, Adds, Becomes, Reaches, next_phase, without_watches, begins, nothing_yet, StatedParts}
 use Rattle.trace_types.proofs.Least.{least_meets, least_induct, least_among, meets_use, has_all_from, facts_there, MeetsAll-append}
-use Rattle.owned_core.proofs.Lists.{contains_none, contains_cases, contains_here, contains_there, any_some, some_any, all_at, all_each, map_some, some_map, filter_some, some_filter}
+use Rattle.owned_core.specs.Changes.{begins, drops_none, forgets, next_phase, without_watches}
+use Rattle.owned_core.specs.Events.{Adds, Answer, Becomes, Deliver, Event, Fix, Forward, Learn, Reaches, Sweep, after_answer, after_delivery, after_fix, after_learning, delivered, forwarded, happens, is_heard_keep, is_place_for, may_answer, may_fix, may_forward, may_learn, may_sweep, moved, run, swept}
+use Rattle.owned_core.specs.Invariants.{HasWatches, Invariant, IsConfirmed, IsIdle, IsOfDue, IsWatchFor, StatedParts, is_sound_entry, is_vouched, rests}
+use Rattle.owned_core.specs.Owned.{Entry, State, begun, in_list, is_due, is_fixed_watch, is_kept, is_listed, is_met, is_opened, is_swept, is_taken, is_there, nothing_yet, with_due, with_slots}
+use Rattle.owned_core.specs.Parts.{alone}
+use Rattle.owned_core.specs.Settings.{HasPlaces, Setting, all_dues, is_collected, rule_of, rules_of}
+use Rattle.owned_core.specs.Slots.{Answered, Asked, Due, Fixed, Heard, Keep, Slot, Stage, Standing, Told, Want, Watch, is_asked, is_at, is_fixed, is_heard, is_keep, is_told_at, keeps, member_list, same_bool, same_slot, same_want}
+use Rattle.owned_core.proofs.Lists.{all_at, all_each, any_some, contains_cases, contains_here, contains_none, contains_there, filter_some, map_some, some_any, some_filter, some_map}
 
 -- ---- the same slot
 
@@ -49,6 +55,32 @@ same_slot_name a b h = eqb-true a.name b.name (search (and_l, and_r))
 pub same_slot_holder : (a b : Slot) → IsTrue (same_slot a b) → a.holder ≡ b.holder
 same_slot_holder a b h = eqb-true a.holder b.holder (search (and_l, and_r))
 
+-- ---- slots that are alike are equal
+
+want_is : (v w : Want) → IsTrue (same_want v w) → v ≡ w
+want_is Keep Keep h = refl
+want_is Keep Watch h = absurd (false≢true h)
+want_is Watch Keep h = absurd (false≢true h)
+want_is Watch Watch h = refl
+
+bool_is : (a b : Bool) → IsTrue (same_bool a b) → a ≡ b
+bool_is true b h = sym h
+bool_is false true h = absurd (false≢true h)
+bool_is false false h = refl
+
+pub slot_is : (a b : Slot) → IsTrue (same_slot a b) → a ≡ b
+slot_is a b h =
+    let name : IsTrue (a.name == b.name) = search (and_l, and_r) in
+    let holder : IsTrue (a.holder == b.holder) = search (and_l, and_r) in
+    let target : IsTrue (a.target == b.target) = search (and_l, and_r) in
+    let want : IsTrue (same_want a.want b.want) = search (and_l, and_r) in
+    let has_place : IsTrue (same_bool a.has_place b.has_place) = search (and_l, and_r) in
+    ap {B = Slot} (λ z. record { name = z; holder = a.holder; target = a.target; want = a.want; has_place = a.has_place }) (eqb-true a.name b.name name)
+    ∙ ap {B = Slot} (λ z. record { name = b.name; holder = z; target = a.target; want = a.want; has_place = a.has_place }) (eqb-true a.holder b.holder holder)
+    ∙ ap {B = Slot} (λ z. record { name = b.name; holder = b.holder; target = z; want = a.want; has_place = a.has_place }) (eqb-true a.target b.target target)
+    ∙ ap {B = Slot} (λ z. record { name = b.name; holder = b.holder; target = b.target; want = z; has_place = a.has_place }) (want_is a.want b.want want)
+    ∙ ap {B = Slot} (λ z. record { name = b.name; holder = b.holder; target = b.target; want = b.want; has_place = z }) (bool_is a.has_place b.has_place has_place)
+
 -- ---- new slots
 
 added_keeps : (b : Bool) (ts : List Standing) (n t : Standing) → Contains ts t → Contains (cond b (ts ++ n ∷ []) ts) t
@@ -67,14 +99,15 @@ module _ (w : Setting) (due : Due → Bool) where
   with_due_keeps [] ts t h = h
   with_due_keeps (d ∷ ds) ts t h = with_due_keeps ds _ t (added_keeps (due d && not (is_there ts d.slot)) ts (begun w d.slot) t h)
 
-  with_due_from : (ds : List Due) (ts : List Standing) (t : Standing) → Contains (with_due w due ts ds) t → Contains ts t ⊎ ((d : Due) × Contains ds d × IsTrue (due d) × (begun w d.slot ≡ t))
+  with_due_from : (ds : List Due) (ts : List Standing) (t : Standing) → Contains (with_due w due ts ds) t → Contains ts t ⊎ ((d : Due) × Contains ds d × IsTrue (due d) × (begun w d.slot ≡ t) × (is_there ts d.slot ≡ false))
   with_due_from [] ts t h = inl h
   with_due_from (d ∷ ds) ts t h = elim (with_due_from ds _ t h) [
     | inl e ↦ elim (added_cases (due d && not (is_there ts d.slot)) ts (begun w d.slot) t e) [
       | inl old ↦ inl old
-      | inr new ↦ inr (d, contains_here d ds, and_l _ _ new.0, new.1)
+      | inr new ↦ inr (d, contains_here d ds, and_l _ _ new.0, new.1, not-true (is_there ts d.slot) (and_r (due d) (not (is_there ts d.slot)) new.0))
     ]
-    | inr r ↦ inr (r.0, contains_there d ds r.0 r.1, r.2, r.3)
+    | inr r ↦ inr (r.0, contains_there d ds r.0 r.1, r.2, r.3,
+        false_from_ne_true (is_there ts r.0.slot) (λ there. both_ways (is_there _ r.0.slot) r.4 (there_more ts _ (added_keeps (due d && not (is_there ts d.slot)) ts (begun w d.slot)) r.0.slot there)))
   ]
 
   with_due_there : (ds : List Due) (ts : List Standing) (d : Due) → Contains ds d → IsTrue (due d) → IsTrue (is_there (with_due w due ts ds) d.slot)
@@ -93,8 +126,11 @@ module _ (w : Setting) (due : Due → Bool) where
       now : e ≡ d → IsTrue (is_there (cond (due e && not (is_there ts e.slot)) (ts ++ begun w e.slot ∷ []) ts) d.slot)
       now same = subst (λ z. IsTrue (is_there (cond (due z && not (is_there ts z.slot)) (ts ++ begun w z.slot ∷ []) ts) d.slot)) (sym same) (here (is_there ts d.slot) refl)
 
-begun_new : (w : Setting) (a : Slot) → IsTrue (is_new (begun w a).stage)
-begun_new w a = elim (w.owner a.target == a.holder) as (λ b. IsTrue (is_new (cond b Heard Asked))) [ true ↦ refl | false ↦ refl ]
+begun_not_fixed : (w : Setting) (a : Slot) → is_fixed (begun w a).stage ≡ false
+begun_not_fixed w a = elim (w.owner a.target == a.holder) as (λ b. is_fixed (cond b Heard Asked) ≡ false) [ true ↦ refl | false ↦ refl ]
+
+begun_not_at : (w : Setting) (a : Slot) (p : ℕ) → is_at (begun w a).stage p ≡ false
+begun_not_at w a p = elim (w.owner a.target == a.holder) as (λ b. is_at (cond b Heard Asked) p ≡ false) [ true ↦ refl | false ↦ refl ]
 
 fixed_place : (g : Stage) → IsTrue (is_fixed g) → (p : ℕ) × IsTrue (is_at g p)
 fixed_place Asked h = absurd (false≢true h)
@@ -147,9 +183,20 @@ pub record Base (w : Setting) (s : State) : Type 0 where
   pub placed : (t : Standing) → Contains s.slots t → (p : ℕ) → IsTrue (is_at t.stage p) → IsTrue (is_vouched w s t.slot p)
   pub members : (t : Standing) → Contains s.slots t → IsTrue (is_keep t.slot.want) → IsTrue (has (least (rules_of w)) t.slot.target)
   pub given_kept : (x : ℕ) → IsTrue (has w.given x) → IsTrue (is_collected w x) → IsTrue (is_kept s x)
+  pub was_due : (t : Standing) → Contains s.slots t → IsOfDue w s t.slot
   pub kept : (x : ℕ) → IsTrue (in_list s x) → IsTrue (is_kept s x)
-  pub targets : (t : Standing) → Contains s.slots t → IsTrue (is_collected w t.slot.target)
+  pub slots_once : (t u : Standing) → Contains s.slots t → Contains s.slots u → IsTrue (same_slot t.slot u.slot) → t ≡ u
   pub unswept_listed : (x : ℕ) → IsTrue (has s.unswept x) → IsTrue (in_list s x)
+
+-- the target of a slot is collected
+pub target_collected : (w : Setting) (s : State) → Base w s → (t : Standing) → Contains s.slots t → IsTrue (is_collected w t.slot.target)
+target_collected w s i t c =
+    let r = i.was_due t c in
+    subst (λ (z : Slot). IsTrue (is_collected w z.target)) r.slot (and_l _ _ (and_l (is_collected w r.of.slot.target && is_opened w s r.of.member) (list_all (is_met w s) r.of.watched) r.met))
+
+-- a slot stays that of a due which was met
+of_due : (w : Setting) (s t : State) → Before t s → (a : Slot) → IsOfDue w s a → IsOfDue w t a
+of_due w s t b a i = record { of = i.of; known = i.known; slot = i.slot; met = due_before w t s b i.of i.met }
 
 -- what is in a list is in the least set
 listed_member : (w : Setting) (s : State) → Base w s → (x : ℕ) → IsTrue (in_list s x) → IsTrue (has (least (rules_of w)) x)
@@ -237,29 +284,46 @@ kept_more s t sub x h =
     let r = any_some (λ a. is_keep a.slot.want && a.slot.target == x) s.slots h in
     some_any (λ a. is_keep a.slot.want && a.slot.target == x) t.slots r.0 (sub r.0 r.1) r.2
 
-new_not_fixed : (g : Stage) → IsTrue (is_new g) → is_fixed g ≡ false
-new_not_fixed Asked h = refl
-new_not_fixed Heard h = refl
-new_not_fixed (Answered p) h = refl
-new_not_fixed (Told p) h = refl
-new_not_fixed (Fixed p) h = absurd (false≢true h)
-
-new_not_at : (g : Stage) (p : ℕ) → IsTrue (is_new g) → is_at g p ≡ false
-new_not_at Asked p h = refl
-new_not_at Heard p h = refl
-new_not_at (Answered q) p h = absurd (false≢true h)
-new_not_at (Told q) p h = absurd (false≢true h)
-new_not_at (Fixed q) p h = absurd (false≢true h)
-
 with_slots_adds : (w : Setting) (s : State) → Adds w s (with_slots w s).slots
 with_slots_adds w s = record {
   stays = λ t c. with_due_keeps w (is_due w s) w.dues s.slots t c;
-  comes = λ t c. elim (with_due_from w (is_due w s) w.dues s.slots t c) [
-    | inl old ↦ inl old
-    | inr new ↦ inr (new.0, new.1, new.2, ap (λ (z : Standing). z.slot) new.3, subst (λ (z : Standing). IsTrue (is_new z.stage)) new.3 (begun_new w new.0.slot))
-  ];
+  comes = λ t c. with_due_from w (is_due w s) w.dues s.slots t c;
   all = λ d c is. with_due_there w (is_due w s) w.dues s.slots d c is;
 }
+
+-- what new slots leave
+module _ (w : Setting) (s : State) (ts : List Standing) (h : Adds w s ts) where
+  abbrev after_adding : State
+  after_adding = record s { slots = ts }
+
+  adds_before : Before s after_adding
+  adds_before = record {
+    swept_before = λ x l. l;
+    fixed_before = λ a c f. elim (h.comes a c) [
+      | inl old ↦ (a, old, refl, f)
+      | inr new ↦ absurd (both_ways (is_fixed a.stage) (subst (λ (z : Standing). is_fixed z.stage ≡ false) new.3 (begun_not_fixed w new.0.slot)) f)
+    ];
+  }
+
+  adds_after : Before after_adding s
+  adds_after = record { swept_before = λ x l. l; fixed_before = λ a c f. (a, h.stays a c, refl, f) }
+
+  adds_once : ((t u : Standing) → Contains s.slots t → Contains s.slots u → IsTrue (same_slot t.slot u.slot) → t ≡ u)
+      → (t u : Standing) → Contains ts t → Contains ts u → IsTrue (same_slot t.slot u.slot) → t ≡ u
+  adds_once once t u c e same = elim (h.comes t c) [
+    | inl old ↦ elim (h.comes u e) [
+      | inl too ↦ once t u old too same
+      | inr new ↦ absurd (both_ways (is_there s.slots new.0.slot) new.4
+          (some_any (λ (z : Standing). same_slot z.slot new.0.slot) s.slots t old (subst (λ (z : Slot). IsTrue (same_slot t.slot z)) (sym (ap (λ (z : Standing). z.slot) new.3)) same)))
+    ]
+    | inr new ↦ elim (h.comes u e) [
+      | inl old ↦ absurd (both_ways (is_there s.slots new.0.slot) new.4
+          (some_any (λ (z : Standing). same_slot z.slot new.0.slot) s.slots u old
+          (subst (λ (z : Slot). IsTrue (same_slot u.slot z)) (sym (slot_is t.slot u.slot same) ∙ sym (ap (λ (z : Standing). z.slot) new.3)) (same_slot_itself u.slot))))
+      | inr too ↦
+          sym new.3 ∙ ap (begun w) (ap (λ (z : Standing). z.slot) new.3 ∙ slot_is t.slot u.slot same ∙ sym (ap (λ (z : Standing). z.slot) too.3)) ∙ too.3
+    ]
+  ]
 
 -- where the rest holds, adding what is due gives the invariant
 pub adds_holds : (w : Setting) (s : State) (ts : List Standing) → Base w s → Adds w s ts → Invariant w (record s { slots = ts })
@@ -269,34 +333,31 @@ adds_holds w s ts i h = record {
   places_once = i.places_once;
   placed = λ t c p at. elim (h.comes t c) [
     | inl old ↦ i.placed t old p at
-    | inr new ↦ absurd (both_ways (is_at t.stage p) (new_not_at t.stage p new.4) at)
+    | inr new ↦ absurd (both_ways (is_at t.stage p) (subst (λ (z : Standing). is_at z.stage p ≡ false) new.3 (begun_not_at w new.0.slot p)) at)
   ];
   members = λ t c keep. elim (h.comes t c) [
     | inl old ↦ i.members t old keep
-    | inr new ↦ subst (λ z. IsTrue (has (least (rules_of w)) z.target)) new.3
-        (due_member w s i new.0 new.1 (subst (λ z. IsTrue (is_keep z.want)) (sym new.3) keep) new.2)
+    | inr new ↦ subst (λ (z : Standing). IsTrue (has (least (rules_of w)) z.slot.target)) new.3
+        (due_member w s i new.0 new.1 (subst (λ (z : Standing). IsTrue (is_keep z.slot.want)) (sym new.3) keep) new.2)
   ];
   given_kept = λ x g c. kept_more s after h.stays x (i.given_kept x g c);
-  due = λ d c is. h.all d c (due_before w s after before d is);
-  kept = λ x l. kept_more s after h.stays x (i.kept x l);
-  targets = λ t c. elim (h.comes t c) [
-    | inl old ↦ i.targets t old
-    | inr new ↦ subst (λ z. IsTrue (is_collected w z.target)) new.3 (and_l _ _ (and_l _ _ new.2))
+  due = λ d c is. h.all d c (due_before w s after (adds_before w s ts h) d is);
+  was_due = λ t c. elim (h.comes t c) [
+    | inl old ↦ of_due w s after (adds_after w s ts h) t.slot (i.was_due t old)
+    | inr new ↦ record {
+        of = new.0;
+        known = Contains-append_right w.past w.dues new.0 new.1;
+        slot = ap (λ (z : Standing). z.slot) new.3;
+        met = due_before w after s (adds_after w s ts h) new.0 new.2;
+      }
   ];
+  kept = λ x l. kept_more s after h.stays x (i.kept x l);
+  slots_once = adds_once w s ts h i.slots_once;
   unswept_listed = i.unswept_listed;
 }
   where
     after : State
     after = record s { slots = ts }
-
-    before : Before s after
-    before = record {
-      swept_before = λ x l. l;
-      fixed_before = λ a c f. elim (h.comes a c) [
-        | inl old ↦ (a, old, refl, f)
-        | inr new ↦ absurd (both_ways (is_fixed a.stage) (new_not_fixed a.stage new.4) f)
-      ];
-    }
 
 with_slots_holds : (w : Setting) (s : State) → Base w s → Invariant w (with_slots w s)
 with_slots_holds w s i = adds_holds w s (with_slots w s).slots i (with_slots_adds w s)
@@ -309,8 +370,9 @@ base_of w s i = record {
   placed = i.placed;
   members = i.members;
   given_kept = i.given_kept;
+  was_due = i.was_due;
   kept = i.kept;
-  targets = i.targets;
+  slots_once = i.slots_once;
   unswept_listed = i.unswept_listed;
 }
 
@@ -330,44 +392,64 @@ module _ (w : Setting) (s : State) (to : Standing → Stage) where
       let r = any_some (λ t. same_slot t.slot a) s.slots h in
       some_any (λ t. same_slot t.slot a) (map (at_stage to) s.slots) (at_stage to r.0) (some_map (at_stage to) s.slots r.0 r.1) r.2
 
-  moved_base : Base w s → ((t : Standing) → Contains s.slots t → (p : ℕ) → IsTrue (is_at (to t) p) → IsTrue (is_vouched w s t.slot p)) → Base w (moved s to)
-  moved_base i still = record {
-    entries = i.entries;
-    objects_once = i.objects_once;
-    places_once = i.places_once;
-    placed = λ t c p at. let r = map_some (at_stage to) s.slots t c in
-        subst (λ z. IsTrue (is_vouched w s z.slot p)) r.2 (still r.0 r.1 p (subst (λ z. IsTrue (is_at z.stage p)) (sym r.2) at));
-    members = λ t c keep. let r = map_some (at_stage to) s.slots t c in
-        subst (λ z. IsTrue (has (least (rules_of w)) z.slot.target)) r.2 (i.members r.0 r.1 (subst (λ z. IsTrue (is_keep z.slot.want)) (sym r.2) keep));
-    given_kept = λ x g c. kept_moved x (i.given_kept x g c);
-    kept = λ x h. kept_moved x (i.kept x h);
-    targets = λ t c. let r = map_some (at_stage to) s.slots t c in
-        subst (λ z. IsTrue (is_collected w z.slot.target)) r.2 (i.targets r.0 r.1);
-    unswept_listed = i.unswept_listed;
-  }
+  pub moved_there : (a : Slot) → IsTrue (is_there (moved s to).slots a) → IsTrue (is_there s.slots a)
+  moved_there a h =
+      let r = any_some (λ t. same_slot t.slot a) (map (at_stage to) s.slots) h in
+      let q = map_some (at_stage to) s.slots r.0 r.1 in
+      some_any (λ t. same_slot t.slot a) s.slots q.0 q.1 (subst (λ (z : Standing). IsTrue (same_slot z.slot a)) (sym q.2) r.2)
 
-  moved_before : ((t : Standing) → IsTrue (is_fixed (to t)) → IsTrue (is_fixed t.stage)) → Before s (moved s to)
-  moved_before none = record {
-    swept_before = λ x h. h;
-    fixed_before = λ a c f. let r = map_some (at_stage to) s.slots a c in
-        (r.0, r.1, ap (λ z. z.slot) r.2, none r.0 (subst (λ z. IsTrue (is_fixed z.stage)) (sym r.2) f));
-  }
+  moved_from : (t : Standing) → Contains (moved s to).slots t → (u : Standing) × Contains s.slots u × (at_stage to u ≡ t)
+  moved_from t c = map_some (at_stage to) s.slots t c
 
-  moved_holds : Invariant w s → ((t : Standing) → Contains s.slots t → (p : ℕ) → IsTrue (is_at (to t) p) → IsTrue (is_vouched w s t.slot p)) → ((t : Standing) → IsTrue (is_fixed (to t)) → IsTrue (is_fixed t.stage)) → Invariant w (moved s to)
-  moved_holds i still none =
-      let base = moved_base (base_of w s i) still in
-      record {
-        entries = base.entries;
-        objects_once = base.objects_once;
-        places_once = base.places_once;
-        placed = base.placed;
-        members = base.members;
-        given_kept = base.given_kept;
-        kept = base.kept;
-        targets = base.targets;
-        unswept_listed = base.unswept_listed;
-        due = λ d c is. there_moved d.slot (i.due d c (due_before w s (moved s to) (moved_before none) d is));
-      }
+  module _ (grow : (t : Standing) → IsTrue (is_fixed t.stage) → IsTrue (is_fixed (to t))) where
+    moved_after : Before (moved s to) s
+    moved_after = record {
+      swept_before = λ x h. h;
+      fixed_before = λ a c f. (at_stage to a, some_map (at_stage to) s.slots a c, refl, grow a f);
+    }
+
+    moved_base : Base w s → ((t : Standing) → Contains s.slots t → (p : ℕ) → IsTrue (is_at (to t) p) → IsTrue (is_vouched w s t.slot p)) → Base w (moved s to)
+    moved_base i still = record {
+      entries = i.entries;
+      objects_once = i.objects_once;
+      places_once = i.places_once;
+      placed = λ t c p at. let r = moved_from t c in
+          subst (λ z. IsTrue (is_vouched w s z.slot p)) r.2 (still r.0 r.1 p (subst (λ z. IsTrue (is_at z.stage p)) (sym r.2) at));
+      members = λ t c keep. let r = moved_from t c in
+          subst (λ z. IsTrue (has (least (rules_of w)) z.slot.target)) r.2 (i.members r.0 r.1 (subst (λ z. IsTrue (is_keep z.slot.want)) (sym r.2) keep));
+      given_kept = λ x g c. kept_moved x (i.given_kept x g c);
+      was_due = λ t c. let r = moved_from t c in
+          subst (λ (z : Standing). IsOfDue w (moved s to) z.slot) r.2 (of_due w s (moved s to) moved_after r.0.slot (i.was_due r.0 r.1));
+      kept = λ x h. kept_moved x (i.kept x h);
+      slots_once = λ t u c e same. let r = moved_from t c in let q = moved_from u e in
+          sym r.2 ∙ ap (at_stage to) (i.slots_once r.0 q.0 r.1 q.1
+          (subst (λ (z : Standing). IsTrue (same_slot r.0.slot z.slot)) (sym q.2) (subst (λ (z : Standing). IsTrue (same_slot z.slot u.slot)) (sym r.2) same))) ∙ q.2;
+      unswept_listed = i.unswept_listed;
+    }
+
+    moved_before : ((t : Standing) → IsTrue (is_fixed (to t)) → IsTrue (is_fixed t.stage)) → Before s (moved s to)
+    moved_before no_more = record {
+      swept_before = λ x h. h;
+      fixed_before = λ a c f. let r = moved_from a c in
+          (r.0, r.1, ap (λ z. z.slot) r.2, no_more r.0 (subst (λ z. IsTrue (is_fixed z.stage)) (sym r.2) f));
+    }
+
+    moved_holds : Invariant w s → ((t : Standing) → Contains s.slots t → (p : ℕ) → IsTrue (is_at (to t) p) → IsTrue (is_vouched w s t.slot p)) → ((t : Standing) → IsTrue (is_fixed (to t)) → IsTrue (is_fixed t.stage)) → Invariant w (moved s to)
+    moved_holds i still no_more =
+        let base = moved_base (base_of w s i) still in
+        record {
+          entries = base.entries;
+          objects_once = base.objects_once;
+          places_once = base.places_once;
+          placed = base.placed;
+          members = base.members;
+          given_kept = base.given_kept;
+          due = λ d c is. there_moved d.slot (i.due d c (due_before w s (moved s to) (moved_before no_more) d is));
+          was_due = base.was_due;
+          kept = base.kept;
+          slots_once = base.slots_once;
+          unswept_listed = base.unswept_listed;
+        }
 
 -- ---- each event
 
@@ -397,8 +479,48 @@ pub chosen : (b : Bool) (g h : Stage) (P : Stage → Type 0) → (IsTrue b → P
 chosen true g h P f o = f refl
 chosen false g h P f o = o
 
+-- a fixed slot stays fixed where the choice was of another stage only for slots that are not fixed
+still_fixed : (b : Bool) (g h : Stage) → (IsTrue b → IsTrue (is_fixed h) → IsTrue (is_fixed g)) → IsTrue (is_fixed h) → IsTrue (is_fixed (cond b g h))
+still_fixed true g h f is = f refl is
+still_fixed false g h f is = is
+
+fixed_delivered : (g : Stage) → IsTrue (is_fixed g) → IsTrue (is_fixed (delivered g))
+fixed_delivered Asked h = h
+fixed_delivered Heard h = h
+fixed_delivered (Answered q) h = h
+fixed_delivered (Told q) h = h
+fixed_delivered (Fixed q) h = h
+
+heard_not_fixed : (g : Stage) → IsTrue (is_heard g) → IsTrue (is_fixed g) → ⊥
+heard_not_fixed Heard h f = false≢true f
+heard_not_fixed Asked h f = false≢true f
+heard_not_fixed (Answered p) h f = false≢true f
+heard_not_fixed (Told p) h f = false≢true f
+heard_not_fixed (Fixed p) h f = false≢true h
+
+asked_not_fixed : (g : Stage) → IsTrue (is_asked g) → IsTrue (is_fixed g) → ⊥
+asked_not_fixed Heard h f = false≢true f
+asked_not_fixed Asked h f = false≢true f
+asked_not_fixed (Answered p) h f = false≢true f
+asked_not_fixed (Told p) h f = false≢true f
+asked_not_fixed (Fixed p) h f = false≢true h
+
+pub deliver_keeps_fixed : (a : Slot) (t : Standing) → IsTrue (is_fixed t.stage) → IsTrue (is_fixed (after_delivery a t))
+deliver_keeps_fixed a t = still_fixed (same_slot t.slot a) (delivered t.stage) t.stage (λ _. fixed_delivered t.stage)
+
+pub answer_keeps_fixed : (w : Setting) (s : State) (k : ℕ) (a : Slot) (p : ℕ) (t : Standing) → IsTrue (is_fixed t.stage) → IsTrue (is_fixed (after_answer w s k a p t))
+answer_keeps_fixed w s k a p t = still_fixed (may_answer w s k a p t) (cond (t.slot.holder == k) (Told p) (Answered p)) t.stage
+    (λ may f. let heard : IsTrue (is_heard t.stage) = search (and_l, and_r) in absurd (heard_not_fixed t.stage heard f))
+
+pub learn_keeps_fixed : (w : Setting) (s : State) (k : ℕ) (a : Slot) (p : ℕ) (t : Standing) → IsTrue (is_fixed t.stage) → IsTrue (is_fixed (after_learning w s k a p t))
+learn_keeps_fixed w s k a p t = still_fixed (may_learn w s k a p t) (Told p) t.stage
+    (λ may f. let asked : IsTrue (is_asked t.stage) = search (and_l, and_r) in absurd (asked_not_fixed t.stage asked f))
+
+pub fix_keeps_fixed : (k : ℕ) (a : Slot) (p : ℕ) (t : Standing) → IsTrue (is_fixed t.stage) → IsTrue (is_fixed (after_fix k a p t))
+fix_keeps_fixed k a p t = still_fixed (may_fix k a p t) (Fixed p) t.stage (λ _ _. refl)
+
 deliver_holds : (w : Setting) (s : State) (a : Slot) → Invariant w s → Invariant w (moved s (after_delivery a))
-deliver_holds w s a i = moved_holds w s (after_delivery a) i
+deliver_holds w s a i = moved_holds w s (after_delivery a) (deliver_keeps_fixed a) i
     (λ t c p. chosen (same_slot t.slot a) (delivered t.stage) t.stage (λ g. IsTrue (is_at g p) → IsTrue (is_vouched w s t.slot p))
     (λ _ at. i.placed t c p (delivered_at t.stage p at)) (i.placed t c p))
     (λ t. chosen (same_slot t.slot a) (delivered t.stage) t.stage (λ g. IsTrue (is_fixed g) → IsTrue (is_fixed t.stage)) (λ _ f. delivered_fixed t.stage f) (λ f. f))
@@ -428,7 +550,7 @@ learn_vouched w s k a p q t may e =
     ])
 
 answer_holds : (w : Setting) (s : State) (k : ℕ) (a : Slot) (p : ℕ) → Invariant w s → Invariant w (moved s (after_answer w s k a p))
-answer_holds w s k a p i = moved_holds w s (after_answer w s k a p) i
+answer_holds w s k a p i = moved_holds w s (after_answer w s k a p) (answer_keeps_fixed w s k a p) i
     (λ t c q. chosen (may_answer w s k a p t) (cond (t.slot.holder == k) (Told p) (Answered p)) t.stage (λ g. IsTrue (is_at g q) → IsTrue (is_vouched w s t.slot q))
     (λ may. chosen (t.slot.holder == k) (Told p) (Answered p) (λ g. IsTrue (is_at g q) → IsTrue (is_vouched w s t.slot q)) (λ _. answer_vouched w s k a p q t may) (answer_vouched w s k a p q t may))
     (i.placed t c q))
@@ -437,12 +559,12 @@ answer_holds w s k a p i = moved_holds w s (after_answer w s k a p) i
     (λ f. f))
 
 learn_holds : (w : Setting) (s : State) (k : ℕ) (a : Slot) (p : ℕ) → Invariant w s → Invariant w (moved s (after_learning w s k a p))
-learn_holds w s k a p i = moved_holds w s (after_learning w s k a p) i
+learn_holds w s k a p i = moved_holds w s (after_learning w s k a p) (learn_keeps_fixed w s k a p) i
     (λ t c q. chosen (may_learn w s k a p t) (Told p) t.stage (λ g. IsTrue (is_at g q) → IsTrue (is_vouched w s t.slot q)) (learn_vouched w s k a p q t) (i.placed t c q))
     (λ t. chosen (may_learn w s k a p t) (Told p) t.stage (λ g. IsTrue (is_fixed g) → IsTrue (is_fixed t.stage)) (λ _ f. absurd (false≢true f)) (λ f. f))
 
 fix_base : (w : Setting) (s : State) (k : ℕ) (a : Slot) (p : ℕ) → Invariant w s → Base w (moved s (after_fix k a p))
-fix_base w s k a p i = moved_base w s (after_fix k a p) (base_of w s i)
+fix_base w s k a p i = moved_base w s (after_fix k a p) (fix_keeps_fixed k a p) (base_of w s i)
     (λ t c q. chosen (may_fix k a p t) (Fixed p) t.stage (λ g. IsTrue (is_at g q) → IsTrue (is_vouched w s t.slot q))
     (λ may e. i.placed t c q (told_at t.stage p q (and_r _ _ may) e)) (i.placed t c q))
 
@@ -467,7 +589,7 @@ module _ (w : Setting) (places : HasPlaces w) (s : State) (k x p : ℕ) (i : Inv
   collected_target : IsTrue (is_collected w x)
   collected_target =
       let r = any_some (λ a. is_keep a.slot.want && a.slot.target == x) s.slots kept_target in
-      subst (λ z. IsTrue (is_collected w z)) (eqb-true r.0.slot.target x (and_r _ _ r.2)) (i.targets r.0 r.1)
+      subst (λ z. IsTrue (is_collected w z)) (eqb-true r.0.slot.target x (and_r _ _ r.2)) (target_collected w s (base_of w s i) r.0 r.1)
 
   place_cases : (b : Bool) → w.stays x ≡ b → IsTrue (cond b (p == w.old_place x) (not (is_taken s p) && not (w.was_place p))) → IsTrue (cond b (p == w.old_place x) (not (w.was_place p))) × (is_taken s p ≡ false)
   place_cases true stays h = (h, false_from_ne_true (is_taken s p) none)
@@ -542,6 +664,22 @@ module _ (w : Setting) (places : HasPlaces w) (s : State) (k x p : ℕ) (i : Inv
     fixed_before = λ a c f. (a, c, refl, f);
   }
 
+  forward_after : Before (forwarded s k x p) s
+  forward_after = record {
+    swept_before = λ y h.
+        let there : IsTrue (in_list s y) = and_l _ _ h in
+        let done : has s.unswept y ≡ false = not-true (has s.unswept y) (and_r _ _ h) in
+        and_from (in_list (forwarded s k x p) y) (not (has (s.unswept ++ x ∷ []) y)) (in_list_more y there)
+        (not_from_false (has (s.unswept ++ x ∷ []) y) (false_from_ne_true (has (s.unswept ++ x ∷ []) y) (λ t. elim (has_append_cases s.unswept (x ∷ []) y t) [
+          | inl old ↦ both_ways (has s.unswept y) done old
+          | inr new ↦ elim (or_cases (x == y) false new) [
+            | inl e ↦ both_ways (in_list s x) may.new (subst (λ z. IsTrue (in_list s z)) (sym (eqb-true x y e)) there)
+            | inr e ↦ false≢true e
+          ]
+        ])));
+    fixed_before = λ a c f. (a, c, refl, f);
+  }
+
   forward_holds : Invariant w (forwarded s k x p)
   forward_holds = record {
     entries = λ e c. elim (Contains-push_cases s.own (record { sweeper = k; object = x; place = p }) e c) [
@@ -569,7 +707,8 @@ module _ (w : Setting) (places : HasPlaces w) (s : State) (k x p : ℕ) (i : Inv
       | inl old ↦ i.kept y old
       | inr same ↦ subst (λ z. IsTrue (is_kept s z)) same kept_target
     ];
-    targets = i.targets;
+    was_due = λ t c. of_due w s (forwarded s k x p) forward_after t.slot (i.was_due t c);
+    slots_once = i.slots_once;
     unswept_listed = λ y h. elim (has_append_cases s.unswept (x ∷ []) y h) [
       | inl old ↦ in_list_more y (i.unswept_listed y old)
       | inr new ↦ some_any (λ (e : Entry). e.object == y) (s.own ++ record { sweeper = k; object = x; place = p } ∷ []) (record { sweeper = k; object = x; place = p })
@@ -580,6 +719,15 @@ module _ (w : Setting) (places : HasPlaces w) (s : State) (k x p : ℕ) (i : Inv
 
 -- ---- one object swept
 
+swept_after : (s : State) (x : ℕ) → Before (swept s x) s
+swept_after s x = record {
+  swept_before = λ y h. and_from (in_list s y) (not (has (filter (λ z. not (z == x)) s.unswept) y)) (and_l _ _ h)
+      (not_from_false (has (filter (λ z. not (z == x)) s.unswept) y) (false_from_ne_true (has (filter (λ z. not (z == x)) s.unswept) y) (λ t.
+      let r = any_some (λ z. z == y) (filter (λ z. not (z == x)) s.unswept) t in
+      both_ways (has s.unswept y) (not-true (has s.unswept y) (and_r _ _ h)) (some_any (λ z. z == y) s.unswept r.0 (filter_some (λ z. not (z == x)) s.unswept r.0 r.1).0 r.2))));
+  fixed_before = λ a c f. (a, c, refl, f);
+}
+
 swept_base : (w : Setting) (s : State) (x : ℕ) → Invariant w s → Base w (swept s x)
 swept_base w s x i = record {
   entries = i.entries;
@@ -588,8 +736,9 @@ swept_base w s x i = record {
   placed = i.placed;
   members = i.members;
   given_kept = i.given_kept;
+  was_due = λ t c. of_due w s (swept s x) (swept_after s x) t.slot (i.was_due t c);
   kept = i.kept;
-  targets = i.targets;
+  slots_once = i.slots_once;
   unswept_listed = λ y h.
       let r = any_some (λ z. z == y) (filter (λ z. not (z == x)) s.unswept) h in
       let f = filter_some (λ z. not (z == x)) s.unswept r.0 r.1 in
@@ -622,7 +771,7 @@ steps_hold w places s (e ∷ es) t i h = steps_hold w places h.0 es t (step_hold
 
 pub event_holds : (w : Setting) → HasPlaces w → (s : State) (e : Event) → Invariant w s → Invariant w (happens w s e)
 event_holds w places s (Forward k x p) i = step_holds w places s (Forward k x p) (happens w s (Forward k x p)) i refl
-event_holds w places s (Sweep k x) i = either (w.owner x == k && has s.unswept x) (with_slots w (swept s x)) s (Invariant w) (λ _. with_slots_holds w (swept s x) (swept_base w s x i)) i
+event_holds w places s (Sweep k x) i = either (may_sweep w s k x) (with_slots w (swept s x)) s (Invariant w) (λ _. with_slots_holds w (swept s x) (swept_base w s x i)) i
 event_holds w places s (Answer k a p) i = answer_holds w s k a p i
 event_holds w places s (Fix k a p) i = with_slots_holds w (moved s (after_fix k a p)) (fix_base w s k a p i)
 event_holds w places s (Deliver a) i = deliver_holds w s a i
@@ -774,12 +923,42 @@ module _ (w : Setting) (s : State) (i : Invariant w s) (known : IsConfirmed w s)
   left_from : (t : Standing) → Contains (without_watches dropped s).slots t → Contains s.slots t
   left_from t c = (filter_some (λ (t : Standing). is_keep t.slot.want || not (dropped t.slot)) s.slots t c).0
 
+  -- a watched premise that is not taken out stays met
+  left_met : (a : Slot) → IsTrue (not (dropped a)) → IsTrue (is_met w s a) → IsTrue (is_met w (without_watches dropped s) a)
+  left_met a left h = elim (or_cases (has w.older a.target) (list_any (is_fixed_watch a) s.slots) h) [
+    | inl e ↦ or_left (has w.older a.target) (list_any (is_fixed_watch a) (without_watches dropped s).slots) e
+    | inr e ↦
+        let r = any_some (is_fixed_watch a) s.slots e in
+        let same : IsTrue (same_slot r.0.slot a) = and_l (same_slot r.0.slot a) (not (is_keep r.0.slot.want)) (and_l _ (is_fixed r.0.stage) r.2) in
+        or_right (has w.older a.target) (list_any (is_fixed_watch a) (without_watches dropped s).slots)
+        (some_any (is_fixed_watch a) (without_watches dropped s).slots r.0
+        (some_filter (λ (t : Standing). is_keep t.slot.want || not (dropped t.slot)) s.slots r.0 r.1
+        (or_right (is_keep r.0.slot.want) (not (dropped r.0.slot)) (subst (λ (z : Slot). IsTrue (not (dropped z))) (sym (slot_is r.0.slot a same)) left))) r.2)
+  ]
+
+  left_due : v.past ≡ map (forgets dropped) (all_dues w) → v.older ≡ w.older → (a : Slot) → IsOfDue w s a → (d : Due) × Contains v.past d × (d.slot ≡ a) × IsTrue (is_due v (without_watches dropped s) d)
+  left_due past older a o = (
+    forgets dropped o.of,
+    subst (λ (l : List Due). Contains l (forgets dropped o.of)) (sym past) (some_map (forgets dropped) (all_dues w) o.of o.known),
+    o.slot,
+    subst (λ (l : List ℕ). IsTrue (is_due (record w { older = l }) (without_watches dropped s) (forgets dropped o.of))) (sym older)
+        (and_from (is_collected w o.of.slot.target && is_opened w s o.of.member) (list_all (is_met w (without_watches dropped s)) (filter (λ a. not (dropped a)) o.of.watched))
+        (and_l _ _ o.met)
+        (all_each (is_met w (without_watches dropped s)) (filter (λ a. not (dropped a)) o.of.watched) (λ b c.
+        let f = filter_some (λ (a : Slot). not (dropped a)) o.of.watched b c in
+        left_met b f.1 (all_at (is_met w s) o.of.watched (and_r (is_collected w o.of.slot.target && is_opened w s o.of.member) (list_all (is_met w s) o.of.watched) o.met) b f.0)))),
+  )
+
+  -- each slot that is left is that of a due of a phase before
+  pub phase_past : v.past ≡ map (forgets dropped) (all_dues w) → v.older ≡ w.older → (t : Standing) → Contains (without_watches dropped s).slots t → (d : Due) × Contains v.past d × (d.slot ≡ t.slot) × IsTrue (is_due v (without_watches dropped s) d)
+  phase_past past older t c = left_due past older t.slot (i.was_due t (left_from t c))
+
 -- what an idle state gives to the next phase before its slots are added
 pub phase_base : (w : Setting) (s : State) (dues : List Due) (given : List ℕ) (believed : ℕ → ℕ → Bool) (dropped : Slot → Bool)
     → Invariant w s → HasWatches w → IsConfirmed w s → IsIdle s
-    → ((x : ℕ) → IsTrue (in_list s x) → IsTrue (has (least (rules_of (next_phase w dues given believed))) x))
+    → ((x : ℕ) → IsTrue (in_list s x) → IsTrue (has (least (rules_of (next_phase w dropped dues given believed))) x))
     → ((x : ℕ) → IsTrue (has given x) → IsTrue (is_collected w x) → IsTrue (has (least (rules_of w)) x))
-    → Base (next_phase w dues given believed) (without_watches dropped s)
+    → Base (next_phase w dropped dues given believed) (without_watches dropped s)
 phase_base w s dues given believed dropped i watches known idle still had = record {
   entries = i.entries;
   objects_once = i.objects_once;
@@ -793,13 +972,15 @@ phase_base w s dues given believed dropped i watches known idle still had = reco
     | inl old ↦ absurd (both_ways (has w.older x) (not-true (has w.older x) collected) old)
     | inr there ↦ there
   ]));
+  was_due = λ t c. let r = phase_past w s i known dropped v refl refl t c in
+      record { of = r.0; known = Contains-append_left v.past v.dues r.0 r.1; slot = r.2; met = r.3 };
   kept = λ x h. kept x (i.kept x h);
-  targets = λ t c. i.targets t (from t c);
+  slots_once = λ t u c e same. i.slots_once t u (from t c) (from u e) same;
   unswept_listed = i.unswept_listed;
 }
   where
     v : Setting
-    v = next_phase w dues given believed
+    v = next_phase w dropped dues given believed
 
     from : (t : Standing) → Contains (without_watches dropped s).slots t → Contains s.slots t
     from = left_from w s i known dropped v
@@ -809,11 +990,11 @@ phase_base w s dues given believed dropped i watches known idle still had = reco
 
 pub phase_holds : (w : Setting) (s : State) (dues : List Due) (given : List ℕ) (believed : ℕ → ℕ → Bool) (dropped : Slot → Bool)
     → Invariant w s → HasWatches w → IsConfirmed w s → IsIdle s
-    → ((x : ℕ) → IsTrue (in_list s x) → IsTrue (has (least (rules_of (next_phase w dues given believed))) x))
+    → ((x : ℕ) → IsTrue (in_list s x) → IsTrue (has (least (rules_of (next_phase w dropped dues given believed))) x))
     → ((x : ℕ) → IsTrue (has given x) → IsTrue (is_collected w x) → IsTrue (has (least (rules_of w)) x))
-    → Invariant (next_phase w dues given believed) (begins (next_phase w dues given believed) dropped s)
+    → Invariant (next_phase w dropped dues given believed) (begins (next_phase w dropped dues given believed) dropped s)
 phase_holds w s dues given believed dropped i watches known idle still had =
-    with_slots_holds (next_phase w dues given believed) (without_watches dropped s) (phase_base w s dues given believed dropped i watches known idle still had)
+    with_slots_holds (next_phase w dropped dues given believed) (without_watches dropped s) (phase_base w s dues given believed dropped i watches known idle still had)
 
 -- a first phase, with nothing in the lists
 pub start_holds : (w : Setting) → w.given ≡ [] → Invariant w (with_slots w nothing_yet)
@@ -825,22 +1006,23 @@ start_holds w none = with_slots_holds w nothing_yet (record {
   placed = λ t c. absurd (contains_none t c);
   members = λ t c. absurd (contains_none t c);
   given_kept = λ x g c. absurd (false≢true (subst (λ (l : List ℕ). IsTrue (has l x)) none g));
+  was_due = λ t c. absurd (contains_none t c);
   kept = λ x h. absurd (false≢true h);
-  targets = λ t c. absurd (contains_none t c);
+  slots_once = λ t u c. absurd (contains_none t c);
   unswept_listed = λ x h. absurd (false≢true h);
 })
 
 pub more_rules : (w : Setting) (s : State) (more : List Due) (believed : ℕ → ℕ → Bool)
     → Invariant w s → HasWatches w → IsConfirmed w s → IsIdle s
-    → Invariant (next_phase w (w.dues ++ more) w.given believed) (begins (next_phase w (w.dues ++ more) w.given believed) (λ _. false) s)
-more_rules w s more believed i watches known idle = phase_holds w s (w.dues ++ more) w.given believed (λ _. false) i watches known idle
+    → Invariant (next_phase w drops_none (w.dues ++ more) w.given believed) (begins (next_phase w drops_none (w.dues ++ more) w.given believed) drops_none s)
+more_rules w s more believed i watches known idle = phase_holds w s (w.dues ++ more) w.given believed drops_none i watches known idle
     (λ x h. least_among (rules_of w) (rules_of v) among x (listed_member w s (base_of w s i) x h))
     (λ x g c. facts_there w.given (least (rules_of w))
     ((MeetsAll-append (facts w.given) (map rule_of (filter keeps w.dues)) (least (rules_of w))).0
     ((MeetsAll-append (facts w.older) (facts w.given ++ map rule_of (filter keeps w.dues)) (least (rules_of w))).0 (least_meets (rules_of w))).1).0 x g)
   where
     v : Setting
-    v = next_phase w (w.dues ++ more) w.given believed
+    v = next_phase w drops_none (w.dues ++ more) w.given believed
 
     among : IsAmong (rules_of w) (rules_of v)
     among r c = elim (Contains-append_cases (facts w.older) (facts w.given ++ map rule_of (filter keeps w.dues)) r c) [
@@ -858,7 +1040,7 @@ more_rules w s more believed i watches known idle = phase_holds w s (w.dues ++ m
 
 pub given_keeps : (w : Setting) (s : State) (dues : List Due) (believed : ℕ → ℕ → Bool) (dropped : Slot → Bool)
     → Invariant w s → HasWatches w → IsConfirmed w s → IsIdle s
-    → Invariant (next_phase w dues (least (rules_of w)) believed) (begins (next_phase w dues (least (rules_of w)) believed) dropped s)
+    → Invariant (next_phase w dropped dues (least (rules_of w)) believed) (begins (next_phase w dropped dues (least (rules_of w)) believed) dropped s)
 given_keeps w s dues believed dropped i watches known idle = phase_holds w s dues (least (rules_of w)) believed dropped i watches known idle
     (λ x h. facts_there (least (rules_of w)) (least (rules_of v))
     ((MeetsAll-append (facts (least (rules_of w))) (map rule_of (filter keeps dues)) (least (rules_of v))).0
@@ -867,7 +1049,7 @@ given_keeps w s dues believed dropped i watches known idle = phase_holds w s due
     (λ x g c. g)
   where
     v : Setting
-    v = next_phase w dues (least (rules_of w)) believed
+    v = next_phase w dropped dues (least (rules_of w)) believed
 
 -- ---- the five parts
 
@@ -894,6 +1076,10 @@ stated_parts w s i = record {
   one_place = i.places_once;
   two = i.placed;
   three_targets = i.members;
+  three_slots = λ d c opened met. elim (cases_Bool (has w.older d.slot.target)) [
+    | inl old ↦ inl old
+    | inr new ↦ inr (i.due d c (due_of w s d (not_from_false (has w.older d.slot.target) new) opened met))
+  ];
   three_rules = λ d c keep opened met. elim (cases_Bool (has w.older d.slot.target)) [
     | inl old ↦ inl old
     | inr new ↦ inr (there_kept s d.slot keep (i.due d c (due_of w s d (not_from_false (has w.older d.slot.target) new) opened met)))
@@ -924,7 +1110,8 @@ believing_more w s believed more i = record {
   members = i.members;
   given_kept = i.given_kept;
   due = i.due;
+  was_due = λ t c. let r = i.was_due t c in record { of = r.of; known = r.known; slot = r.slot; met = r.met };
   kept = i.kept;
-  targets = i.targets;
+  slots_once = i.slots_once;
   unswept_listed = i.unswept_listed;
 }

@@ -5,10 +5,14 @@ use Rattle.std.proofs.lemmas.Bool.{or_cases, or_right, or_left, and_from, eqb-tr
 use Rattle.std.proofs.lemmas.List.Folds.{list_any-append}
 use Rattle.std.proofs.lemmas.List.Elements.{Contains-append_left, Contains-append_right, Contains-append_cases, Contains-push_cases, filter-append}
 use Rattle.trace_types.specs.Rules.{has}
-use Rattle.owned_core.specs.Core.{Stage, Asked, Heard, Answered, Told, Fixed, Slot, Standing, Due, is_keep, same_slot, is_heard, is_asked, is_fixed, is_told_at, Setting, is_collected, Entry, State, in_list, is_taken, is_listed, is_swept, is_there, is_fixed_watch, is_met, is_opened, is_due, Event, Forward, Sweep, Answer, Fix, Deliver, Learn, is_place_for, is_heard_keep, may_forward, may_answer, may_fix, may_learn, after_answer, after_fix, after_learning, moved, forwarded, swept, Invariant, HasPlaces, Adds, Becomes}
-use Rattle.owned_core.specs.Parts.{is_with_holder, lies_at, Part, alone, IsPart, HoldsWell, InTerritory, Makes, with_news, MayForwardHere, swept_here, moved_here, BecomesHere, SamePart, ReachesHere, Together}
-use Rattle.owned_core.proofs.Lists.{any_some, some_any, all_at, all_each, map_some, some_map, filter_some, some_filter, not_all}
-use Rattle.owned_core.proofs.Core.{same_slot_itself, and_l, and_r, same_slot_target, same_slot_holder, there_more, at_stage, there_moved, same_tests, step_holds, chosen}
+use Rattle.owned_core.specs.Events.{Adds, Answer, Becomes, Deliver, Event, Fix, Forward, Learn, Sweep, after_answer, after_fix, after_learning, forwarded, is_heard_keep, is_place_for, may_answer, may_fix, may_forward, may_learn, moved, swept}
+use Rattle.owned_core.specs.Invariants.{Invariant}
+use Rattle.owned_core.specs.Owned.{Entry, State, begun, in_list, is_due, is_fixed_watch, is_listed, is_met, is_opened, is_swept, is_taken, is_there}
+use Rattle.owned_core.specs.Parts.{BecomesHere, HoldsWell, InTerritory, IsPart, Makes, MayForwardHere, Part, ReachesHere, SamePart, Together, alone, is_with_holder, lies_at, moved_here, swept_here, with_news}
+use Rattle.owned_core.specs.Settings.{HasPlaces, Setting, all_dues, is_collected}
+use Rattle.owned_core.specs.Slots.{Answered, Asked, Due, Fixed, Heard, Slot, Stage, Standing, Told, is_asked, is_fixed, is_heard, is_keep, is_told_at, same_slot}
+use Rattle.owned_core.proofs.Core.{and_l, and_r, at_stage, chosen, moved_there, same_slot_holder, same_slot_itself, same_slot_target, same_tests, slot_is, step_holds, there_more, there_moved}
+use Rattle.owned_core.proofs.Lists.{all_at, all_each, any_some, filter_some, map_some, not_all, some_any, some_filter, some_map}
 
 -- ---- the part and the whole
 
@@ -100,7 +104,7 @@ module _ (w : Setting) (k : ℕ) (s : State) (p : Part) (i : IsPart w k s p) whe
             let same : IsTrue (same_slot t.slot a) = and_l (same_slot t.slot a) (not (is_keep t.slot.want)) (and_l _ (is_fixed t.stage) h) in
             lies_with_holder w t (fixed_with_holder t.stage (and_r (same_slot t.slot a && not (is_keep t.slot.want)) (is_fixed t.stage) h)) ∙ same_slot_holder t.slot a same ∙ is
 
-    module _ (well : HoldsWell w) (d : Due) (c : Contains w.dues d) (mine : d.slot.holder ≡ k) where
+    module _ (well : HoldsWell w) (d : Due) (c : Contains (all_dues w) d) (mine : d.slot.holder ≡ k) where
       pub due_up : IsTrue (is_due w (alone p) d) → IsTrue (is_due w s d)
       due_up h = and_from (is_collected w d.slot.target && is_opened w s d.member) (list_all (is_met w s) d.watched)
           (and_from (is_collected w d.slot.target) (is_opened w s d.member) (and_l _ _ (and_l _ _ h))
@@ -202,29 +206,47 @@ module _ (w : Setting) (k : ℕ) (s : State) (news : List Standing) (lie : (t : 
     made = λ a c. there_left s.slots news a (i.made a c);
   }
 
--- what the sweeper made is what is due in the whole
+pub begun_lies : (w : Setting) (a : Slot) → lies_at w (begun w a) ≡ a.holder
+begun_lies w a = chosen (w.owner a.target == a.holder) Heard Asked (λ g. cond (is_with_holder g) a.holder (w.owner a.target) ≡ a.holder) (λ e. eqb-true (w.owner a.target) a.holder e) refl
+
+abbrev in_all : (w : Setting) (d : Due) → Contains w.dues d → Contains (all_dues w) d
+in_all w d c = Contains-append_right w.past w.dues d c
+
+makes_lie : (w : Setting) (k : ℕ) {before p : Part} {news : List Standing} → Makes w k before p news → (t : Standing) → Contains news t → lies_at w t ≡ k
+makes_lie w k h t c = let r = h.sound t c in ap (lies_at w) (sym r.2) ∙ begun_lies w r.0.slot ∙ r.3
+
+-- what the sweeper made is what is due in the whole, and was not there
 makes_adds : (w : Setting) (k : ℕ) (s u : State) (before p : Part) (news : List Standing)
     → HoldsWell w → Invariant w s → IsPart w k s before → HasOwners w u → IsPart w k u p
     → ((a : Slot) → IsTrue (is_there s.slots a) → IsTrue (is_there u.slots a))
+    → ((a : Slot) → IsTrue (is_there u.slots a) → IsTrue (is_there s.slots a))
     → ((d : Due) → Contains w.dues d → IsTrue (is_due w u d) → is_due w s d ≡ false → d.slot.holder ≡ k)
     → Makes w k before p news → Adds w u (u.slots ++ news)
-makes_adds w k s u before p news well inv was have i more newly h = record {
+makes_adds w k s u before p news well inv was have i more less newly h = record {
   stays = λ t c. Contains-append_left u.slots news t c;
   comes = λ t c. elim (Contains-append_cases u.slots news t c) [
     | inl old ↦ inl old
-    | inr new ↦ let r = h.sound t new in inr (r.0, r.1, due_up w k u p i have well r.0 r.1 r.3 r.4, r.2, r.5)
+    | inr new ↦ let r = h.sound t new in inr (r.0, r.1, due_up w k u p i have well r.0 (in_all w r.0 r.1) r.3 r.4, r.2, absent t new r.0 r.2 r.3)
   ];
   all = λ d c is. elim (cases_Bool (is_due w s d)) [
     | inl old ↦ there_left u.slots news d.slot (more d.slot (inv.due d c old))
     | inr new ↦
         let mine = newly d c is new in
-        let old_here = false_from_ne_true (is_due w (alone before) d) (λ e. both_ways (is_due w s d) new (due_up w k s before was (owners w s inv) well d c mine e)) in
-        elim (Contains-append_cases p.made (map (λ (t : Standing). t.slot) news) d.slot (h.complete d c mine old_here (due_down w k u p i have well d c mine is))) [
+        let old_here = false_from_ne_true (is_due w (alone before) d) (λ e. both_ways (is_due w s d) new (due_up w k s before was (owners w s inv) well d (in_all w d c) mine e)) in
+        elim (Contains-append_cases p.made (map (λ (t : Standing). t.slot) news) d.slot (h.complete d c mine old_here (due_down w k u p i have well d (in_all w d c) mine is))) [
           | inl made ↦ there_left u.slots news d.slot (i.made d.slot made)
           | inr made ↦ there_new u.slots news d.slot made
         ]
   ];
 }
+  where
+    absent : (t : Standing) → Contains news t → (d : Due) → begun w d.slot ≡ t → d.slot.holder ≡ k → is_there u.slots d.slot ≡ false
+    absent t new d is mine = false_from_ne_true (is_there u.slots d.slot) (λ there.
+        let r = any_some (λ (z : Standing). same_slot z.slot d.slot) s.slots (less d.slot there) in
+        let o = inv.was_due r.0 r.1 in
+        let same : o.of.slot ≡ d.slot = o.slot ∙ slot_is r.0.slot d.slot r.2 in
+        both_ways (is_due w (alone before) o.of) (h.new t new o.of o.known (same ∙ ap (λ (z : Standing). z.slot) is))
+        (due_down w k s before was (owners w s inv) well o.of o.known (ap (λ (z : Slot). z.holder) same ∙ mine) o.met))
 
 -- ---- one event
 
@@ -297,7 +319,7 @@ module _ (w : Setting) (well : HoldsWell w) (k : ℕ) (s : State) (p : Part) (in
   swept_newly x is d c now old = elim (opened_newly x d.member (and_r (is_collected w d.slot.target) (is_opened w (swept s x) d.member) (and_l _ _ now))) [
     | inl before ↦ absurd (both_ways (is_due w s d) old (and_from (is_collected w d.slot.target && is_opened w s d.member) (list_all (is_met w s) d.watched)
         (and_from (is_collected w d.slot.target) (is_opened w s d.member) (and_l _ _ (and_l _ _ now)) before) (and_r _ _ now)))
-    | inr member ↦ sym (well.member d c x member) ∙ is
+    | inr member ↦ sym (well.member d (in_all w d c) x member) ∙ is
   ]
 
   lift_sweep : (x : ℕ) (q : Part) → BecomesHere w k p (Sweep k x) q → One w k s (Sweep k x) q
@@ -305,8 +327,8 @@ module _ (w : Setting) (well : HoldsWell w) (k : ℕ) (s : State) (p : Part) (in
     where
       at : w.owner x ≡ k → IsTrue (has p.unswept x) → (news : List Standing) → Makes w k p (swept_here p x) news → q ≡ with_news (swept_here p x) news → One w k s (Sweep k x) q
       at is unswept news makes result =
-          let adds = makes_adds w k s (swept s x) p (swept_here p x) news well inv i (owners w s inv) (swept_part x) (λ a t. t) (swept_newly x is) makes in
-          let lie : (t : Standing) → Contains news t → lies_at w t ≡ k = λ t c. (makes.sound t c).6 in
+          let adds = makes_adds w k s (swept s x) p (swept_here p x) news well inv i (owners w s inv) (swept_part x) (λ a t. t) (λ a t. t) (swept_newly x is) makes in
+          let lie : (t : Standing) → Contains news t → lies_at w t ≡ k = makes_lie w k makes in
           record {
             after = record (swept s x) { slots = s.slots ++ news };
             becomes = (s.slots ++ news, and_from (w.owner x == k) (has s.unswept x) (eq-eqb (w.owner x) k is) (subst IsTrue (sym (i.unswept x is)) unswept), adds, refl);
@@ -509,7 +531,7 @@ module _ (w : Setting) (well : HoldsWell w) (k : ℕ) (s : State) (p : Part) (in
           fixed t c f none = elim (cases_Bool (may_fix k a to t)) [
             | inl may ↦
                 let same : IsTrue (same_slot t.slot b) = and_l (same_slot t.slot b) (not (is_keep t.slot.want)) (and_l _ (is_fixed (after_fix k a to t)) f) in
-                sym (well.watched d c_d b in_d) ∙ sym (same_slot_holder t.slot b same) ∙ fix_holder w k a to t may
+                sym (well.watched d (in_all w d c_d) b in_d) ∙ sym (same_slot_holder t.slot b same) ∙ fix_holder w k a to t may
             | inr may_not ↦ absurd (both_ways (list_any (is_fixed_watch b) s.slots) none (some_any (is_fixed_watch b) s.slots t c
                 (subst (λ g. IsTrue (same_slot t.slot b && not (is_keep t.slot.want) && is_fixed g)) (ap (λ z. cond z (Fixed to) t.stage) may_not) f)))
           ]
@@ -523,8 +545,8 @@ module _ (w : Setting) (well : HoldsWell w) (k : ℕ) (s : State) (p : Part) (in
       at : (news : List Standing) → Makes w k p (moved_here p (after_fix k a to)) news → q ≡ with_news (moved_here p (after_fix k a to)) news → One w k s (Fix k a to) q
       at news makes result =
           let part' = moved_part w k s (after_fix k a to) (after_fix k a to) (fix_here w k a to) (fix_there w k a to) p i (λ t c. refl) in
-          let adds = makes_adds w k s (moved s (after_fix k a to)) p (moved_here p (after_fix k a to)) news well inv i (owners w s inv) part' (there_moved w s (after_fix k a to)) fixed_newly makes in
-          let lie : (t : Standing) → Contains news t → lies_at w t ≡ k = λ t c. (makes.sound t c).6 in
+          let adds = makes_adds w k s (moved s (after_fix k a to)) p (moved_here p (after_fix k a to)) news well inv i (owners w s inv) part' (there_moved w s (after_fix k a to)) (moved_there w s (after_fix k a to)) fixed_newly makes in
+          let lie : (t : Standing) → Contains news t → lies_at w t ≡ k = makes_lie w k makes in
           record {
             after = record (moved s (after_fix k a to)) { slots = (moved s (after_fix k a to)).slots ++ news };
             becomes = ((moved s (after_fix k a to)).slots ++ news, adds, refl);
