@@ -308,7 +308,7 @@ module _ (w : Setting) (s : State) (ts : List Standing) (h : Adds w s ts) where
   adds_after : Before after_adding s
   adds_after = record { swept_before = λ x l. l; fixed_before = λ a c f. (a, h.stays a c, refl, f) }
 
-  adds_once : ((t u : Standing) → Contains s.slots t → Contains s.slots u → IsTrue (same_slot t.slot u.slot) → t ≡ u)
+  pub adds_once : ((t u : Standing) → Contains s.slots t → Contains s.slots u → IsTrue (same_slot t.slot u.slot) → t ≡ u)
       → (t u : Standing) → Contains ts t → Contains ts u → IsTrue (same_slot t.slot u.slot) → t ≡ u
   adds_once once t u c e same = elim (h.comes t c) [
     | inl old ↦ elim (h.comes u e) [
