@@ -8,8 +8,8 @@ use Rattle.owned_core.specs.Invariants.{Invariant}
 use Rattle.owned_core.specs.Owned.{State, is_due, is_opened, is_swept, is_there}
 use Rattle.owned_core.specs.Settings.{Setting, all_dues, is_collected}
 use Rattle.owned_core.specs.Slots.{Due, Slot, Standing, same_slot}
-use Rattle.owned_core.proofs.Core.{and_l, and_r, slot_is}
 use Rattle.owned_core.proofs.Lists.{any_some}
+use Rattle.owned_core.proofs.SameSlots.{and_l, and_r, slot_is}
 
 pub slots_once : (w : Setting) (s : State) → Invariant w s → (t u : Standing) → Contains s.slots t → Contains s.slots u → IsTrue (same_slot t.slot u.slot) → t ≡ u
 slots_once w s i = i.slots_once

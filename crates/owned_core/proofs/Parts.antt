@@ -11,8 +11,11 @@ use Rattle.owned_core.specs.Owned.{Entry, State, begun, in_list, is_due, is_fixe
 use Rattle.owned_core.specs.Parts.{BecomesHere, HoldsWell, InTerritory, IsPart, Makes, MayForwardHere, Part, ReachesHere, SamePart, Together, alone, is_with_holder, lies_at, moved_here, swept_here, with_news}
 use Rattle.owned_core.specs.Settings.{HasPlaces, Setting, all_dues, is_collected}
 use Rattle.owned_core.specs.Slots.{Answered, Asked, Due, Fixed, Heard, Slot, Stage, Standing, Told, is_asked, is_fixed, is_heard, is_keep, is_told_at, same_slot}
-use Rattle.owned_core.proofs.Core.{and_l, and_r, at_stage, chosen, moved_there, same_slot_holder, same_slot_itself, same_slot_target, same_tests, slot_is, step_holds, there_more, there_moved}
+use Rattle.owned_core.proofs.Adding.{there_more}
+use Rattle.owned_core.proofs.Holding.{at_stage, chosen, moved_there, step_holds, there_moved}
 use Rattle.owned_core.proofs.Lists.{all_at, all_each, any_some, filter_some, map_some, not_all, some_any, some_filter, some_map}
+use Rattle.owned_core.proofs.Resting.{same_tests}
+use Rattle.owned_core.proofs.SameSlots.{and_l, and_r, same_slot_holder, same_slot_itself, same_slot_target, slot_is}
 
 -- ---- the part and the whole
 

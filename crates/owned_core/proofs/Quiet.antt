@@ -9,10 +9,10 @@ use Rattle.owned_core.specs.Owned.{Entry, State, in_list, is_listed}
 use Rattle.owned_core.specs.Ranks.{HasRoom, WatchesHavePlaces, is_work}
 use Rattle.owned_core.specs.Settings.{Setting}
 use Rattle.owned_core.specs.Slots.{Answered, Asked, Fixed, Heard, Slot, Stage, Standing, Told, is_heard, is_keep, is_told_at, same_slot}
-use Rattle.owned_core.proofs.Core.{same_slot_itself}
 use Rattle.owned_core.proofs.Lists.{any_some, some_any}
 use Rattle.owned_core.proofs.Parts.{owners}
 use Rattle.owned_core.proofs.Rounds.{nobody_left}
+use Rattle.owned_core.proofs.SameSlots.{same_slot_itself}
 
 module _ (w : Setting) (s : State) (i : Invariant w s) (room : HasRoom w s) (words : WatchesHavePlaces w) (quiet : (e : Event) → IsTrue (is_work e) → can_happen w s e ≡ false) where
   -- what is in a list has its pair in the list of its owner

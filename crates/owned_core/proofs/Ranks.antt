@@ -10,10 +10,12 @@ use Rattle.owned_core.specs.Owned.{Entry, State, in_list, is_kept, is_there}
 use Rattle.owned_core.specs.Ranks.{Covers, Works, deliveries, message_rank, messages, object_rank, rank, slot_rank, stage_of, sum_over}
 use Rattle.owned_core.specs.Settings.{HasPlaces, Setting}
 use Rattle.owned_core.specs.Slots.{Answered, Asked, Fixed, Heard, Slot, Stage, Standing, Told, is_asked, is_heard, is_keep, is_told_at, same_slot}
-use Rattle.owned_core.proofs.Core.{adds_once, and_l, and_r, at_stage, either, same_slot_itself, slot_is, step_holds}
+use Rattle.owned_core.proofs.Adding.{adds_once}
+use Rattle.owned_core.proofs.Holding.{at_stage, either, step_holds}
 use Rattle.owned_core.proofs.Lists.{any_some, contains_cases, contains_here, contains_none, contains_there, map_some, some_any, some_map}
 use Rattle.owned_core.proofs.Once.{slots_once}
 use Rattle.owned_core.proofs.Parts.{has_filter}
+use Rattle.owned_core.proofs.SameSlots.{and_l, and_r, same_slot_itself, slot_is}
 
 -- ---- sums
 

@@ -10,9 +10,10 @@ use Rattle.owned_core.specs.Invariants.{HasWatches, Invariant}
 use Rattle.owned_core.specs.Owned.{State, begun, in_list, nothing_yet, with_slots}
 use Rattle.owned_core.specs.Serving.{AllForwarded, Course, Ends, HasForwarded, first_phase, fourth_phase, second_phase, third_phase}
 use Rattle.owned_core.specs.Settings.{HasPlaces, Setting, is_collected, rules_of}
-use Rattle.owned_core.proofs.Core.{idle_exact, more_rules, phase_holds, start_holds, steps_hold}
+use Rattle.owned_core.proofs.Holding.{steps_hold}
 use Rattle.owned_core.proofs.PhaseSets.{third_in_fourth, first_is, fourth_is, second_is, third_is}
 use Rattle.owned_core.proofs.PhaseShapes.{first_has_watches, fourth_has_watches, second_has_watches, third_has_watches}
+use Rattle.owned_core.proofs.Resting.{idle_exact, more_rules, phase_holds, start_holds}
 
 -- a phase that ends idle has exactly the set that its rules give
 ended : (w : Setting) → HasPlaces w → HasWatches w → (begun after : State) → Invariant w begun → Ends w begun after → (set : List ℕ) → ((x : ℕ) → has (least (rules_of w)) x ≡ has set x)

@@ -1,8 +1,8 @@
 use Rattle.owned_core.proofs.laws.phases_begin_with_invariant.Goals as goal
-use Rattle.owned_core.proofs.Core.{start_holds}
-use Rattle.owned_core.proofs.Core.{phase_holds}
-use Rattle.owned_core.proofs.Core.{more_rules}
-use Rattle.owned_core.proofs.Core.{given_keeps}
+use Rattle.owned_core.proofs.Resting.{start_holds}
+use Rattle.owned_core.proofs.Resting.{phase_holds}
+use Rattle.owned_core.proofs.Resting.{more_rules}
+use Rattle.owned_core.proofs.Resting.{given_keeps}
 
 pub returns-clause-start : goal.returns-clause-start
 returns-clause-start c = start_holds
