@@ -1,21 +1,17 @@
 -- New slots, and what they leave.
-use Rattle.std.proofs.Common.{◌≡◌, nat_eq, ℕ, Bool, true, false, not, ◌||◌, ◌&&◌, ◌==◌, ◌⊎◌, List, [], ◌∷◌, ◌++◌, map, filter, cond, Contains, IsTrue, refl, sym, ap, subst, ◌∙◌, inl, inr, Option, None, Some}
+use Rattle.std.proofs.Common.{◌≡◌, nat_eq, ℕ, Bool, true, false, not, ◌&&◌, ◌==◌, ◌⊎◌, List, [], ◌∷◌, ◌++◌, map, filter, cond, Contains, IsTrue, refl, sym, ap, subst, ◌∙◌, inl, inr, Option, None, Some}
 use Rattle.std.specs.List.{list_any, list_all, IsDistinct}
-use Rattle.std.proofs.lemmas.Bool.{or_cases, or_right, or_left, and_parts, and_from, eqb-true, eq-eqb, cases_Bool, both_ways, not-true, false≢true, not_from_false, false_from_ne_true, or_parts}
+use Rattle.std.proofs.lemmas.Bool.{or_cases, or_right, or_left, and_from, eqb-true, eq-eqb, both_ways, not-true, false≢true, not_from_false, false_from_ne_true}
 use Rattle.std.proofs.lemmas.List.Folds.{list_any-append}
-use Rattle.std.proofs.lemmas.List.{map-append}
-use Rattle.std.proofs.lemmas.Map.Keys.{IsDistinct-push}
-use Rattle.std.specs.Cmp.{nat_eq_equiv}
-use Rattle.std.proofs.lemmas.List.Elements.{Contains-append_left, Contains-append_right, Contains-append_cases, Contains-push, Contains-push_cases, All-contains, All-weaker, All-contains_itself}
-use Rattle.trace_types.specs.Rules.{Rule, has, ◌⊆◌, least, meets, IsAmong, facts}
-use Rattle.trace_types.proofs.Least.{least_meets, least_induct, least_among, meets_use, has_all_from, facts_there, MeetsAll-append}
+use Rattle.std.proofs.lemmas.List.Elements.{Contains-append_left, Contains-append_right, Contains-push, Contains-push_cases, All-contains}
+use Rattle.trace_types.specs.Rules.{has, ◌⊆◌, least, meets, facts}
+use Rattle.trace_types.proofs.Least.{least_meets, meets_use, has_all_from, facts_there, MeetsAll-append}
 use Rattle.owned_core.specs.Events.{Adds}
 use Rattle.owned_core.specs.Invariants.{Invariant, IsOfDue, is_sound_entry, is_vouched}
 use Rattle.owned_core.specs.Owned.{Entry, State, begun, in_list, is_due, is_fixed_watch, is_kept, is_listed, is_met, is_opened, is_swept, is_there, with_due, with_slots}
 use Rattle.owned_core.specs.Settings.{Setting, is_collected, rule_of, rules_of}
 use Rattle.owned_core.specs.Slots.{Answered, Asked, Due, Fixed, Heard, Slot, Stage, Standing, Told, is_at, is_fixed, is_keep, keeps, member_list, same_slot}
 use Rattle.owned_core.proofs.Lists.{all_at, all_each, any_some, contains_cases, contains_here, contains_none, contains_there, map_some, some_any, some_filter, some_map}
-use Rattle.owned_core.proofs.Once.{slots_once}
 use Rattle.owned_core.proofs.SameSlots.{and_l, and_r, same_slot_itself, same_slot_target, slot_is}
 
 -- ---- new slots
@@ -43,8 +39,13 @@ module _ (w : Setting) (due : Due → Bool) where
       | inl old ↦ inl old
       | inr new ↦ inr (d, contains_here d ds, and_l _ _ new.0, new.1, not-true (is_there ts d.slot) (and_r (due d) (not (is_there ts d.slot)) new.0))
     ]
-    | inr r ↦ inr (r.0, contains_there d ds r.0 r.1, r.2, r.3,
-        false_from_ne_true (is_there ts r.0.slot) (λ there. both_ways (is_there _ r.0.slot) r.4 (there_more ts _ (added_keeps (due d && not (is_there ts d.slot)) ts (begun w d.slot)) r.0.slot there)))
+    | inr r ↦ inr (
+      r.0,
+      contains_there d ds r.0 r.1,
+      r.2,
+      r.3,
+      false_from_ne_true (is_there ts r.0.slot) (λ there. both_ways (is_there _ r.0.slot) r.4 (there_more ts _ (added_keeps (due d && not (is_there ts d.slot)) ts (begun w d.slot)) r.0.slot there)),
+    )
   ]
 
   with_due_there : (ds : List Due) (ts : List Standing) (d : Due) → Contains ds d → IsTrue (due d) → IsTrue (is_there (with_due w due ts ds) d.slot)
@@ -282,11 +283,11 @@ adds_holds w s ts i h = record {
   was_due = λ t c. elim (h.comes t c) [
     | inl old ↦ of_due w s after (adds_after w s ts h) t.slot (i.was_due t old)
     | inr new ↦ record {
-        of = new.0;
-        known = Contains-append_right w.past w.dues new.0 new.1;
-        slot = ap (λ (z : Standing). z.slot) new.3;
-        met = due_before w after s (adds_after w s ts h) new.0 new.2;
-      }
+      of = new.0;
+      known = Contains-append_right w.past w.dues new.0 new.1;
+      slot = ap (λ (z : Standing). z.slot) new.3;
+      met = due_before w after s (adds_after w s ts h) new.0 new.2;
+    }
   ];
   kept = λ x l. kept_more s after h.stays x (i.kept x l);
   slots_once = adds_once w s ts h i.slots_once;

@@ -1,14 +1,13 @@
 -- Each event keeps the invariant.
-use Rattle.std.proofs.Common.{◌≡◌, nat_eq, ℕ, Bool, true, false, not, ◌||◌, ◌&&◌, ◌==◌, ◌⊎◌, List, [], ◌∷◌, ◌++◌, map, filter, cond, Contains, IsTrue, refl, sym, ap, subst, ◌∙◌, inl, inr, Option, None, Some}
-use Rattle.std.specs.List.{list_any, list_all, IsDistinct}
-use Rattle.std.proofs.lemmas.Bool.{or_cases, or_right, or_left, and_parts, and_from, eqb-true, eq-eqb, cases_Bool, both_ways, not-true, false≢true, not_from_false, false_from_ne_true, or_parts}
+use Rattle.std.proofs.Common.{◌≡◌, nat_eq, ℕ, Bool, true, false, not, ◌||◌, ◌&&◌, ◌==◌, ◌⊎◌, List, [], ◌∷◌, ◌++◌, map, filter, cond, Contains, IsTrue, refl, sym, ap, subst, ◌∙◌, inl, inr}
+use Rattle.std.specs.List.{list_any, IsDistinct}
+use Rattle.std.proofs.lemmas.Bool.{or_cases, or_right, or_left, and_from, eqb-true, eq-eqb, cases_Bool, both_ways, not-true, false≢true, not_from_false, false_from_ne_true, or_parts}
 use Rattle.std.proofs.lemmas.List.Folds.{list_any-append}
 use Rattle.std.proofs.lemmas.List.{map-append}
 use Rattle.std.proofs.lemmas.Map.Keys.{IsDistinct-push}
 use Rattle.std.specs.Cmp.{nat_eq_equiv}
-use Rattle.std.proofs.lemmas.List.Elements.{Contains-append_left, Contains-append_right, Contains-append_cases, Contains-push, Contains-push_cases, All-contains, All-weaker, All-contains_itself}
-use Rattle.trace_types.specs.Rules.{Rule, has, ◌⊆◌, least, meets, IsAmong, facts}
-use Rattle.trace_types.proofs.Least.{least_meets, least_induct, least_among, meets_use, has_all_from, facts_there, MeetsAll-append}
+use Rattle.std.proofs.lemmas.List.Elements.{Contains-append_left, Contains-push, Contains-push_cases}
+use Rattle.trace_types.specs.Rules.{has, least}
 use Rattle.owned_core.specs.Events.{Answer, Becomes, Deliver, Event, Fix, Forward, Learn, Reaches, Sweep, after_answer, after_delivery, after_fix, after_learning, delivered, forwarded, happens, is_heard_keep, is_place_for, may_answer, may_fix, may_forward, may_learn, may_sweep, moved, run, swept}
 use Rattle.owned_core.specs.Invariants.{Invariant, IsOfDue, is_sound_entry, is_vouched}
 use Rattle.owned_core.specs.Owned.{Entry, State, in_list, is_kept, is_listed, is_taken, is_there, with_slots}
@@ -16,7 +15,6 @@ use Rattle.owned_core.specs.Settings.{HasPlaces, Setting, is_collected, rules_of
 use Rattle.owned_core.specs.Slots.{Answered, Asked, Fixed, Heard, Slot, Stage, Standing, Told, is_asked, is_at, is_fixed, is_heard, is_keep, is_told_at, same_slot}
 use Rattle.owned_core.proofs.Adding.{Base, Before, adds_holds, base_of, due_before, has_append_cases, of_due, target_collected, vouched_cases, with_slots_holds}
 use Rattle.owned_core.proofs.Lists.{any_some, filter_some, map_some, some_any, some_map}
-use Rattle.owned_core.proofs.Once.{slots_once}
 use Rattle.owned_core.proofs.SameSlots.{and_l, and_r}
 
 -- ---- slots that go to a stage

@@ -1,6 +1,5 @@
 -- No slot stands twice.
-use Rattle.std.proofs.Common.{◌≡◌, ℕ, Bool, true, false, not, ◌||◌, ◌&&◌, List, Contains, IsTrue, subst, ◌∙◌, inl, inr, Option, Some}
-use Rattle.std.specs.List.{list_any, list_all}
+use Rattle.std.proofs.Common.{◌≡◌, ℕ, false, Contains, IsTrue, subst, ◌∙◌, inl, inr, Some}
 use Rattle.std.proofs.lemmas.Bool.{or_cases, both_ways, not-true, false_from_ne_true}
 use Rattle.trace_types.specs.Rules.{has}
 use Rattle.owned_core.specs.Events.{swept}
@@ -26,7 +25,7 @@ pub unswept_absent : (w : Setting) (s : State) → Invariant w s → (a : Slot) 
     → IsTrue (is_collected w x) → is_swept s x ≡ false → is_there s.slots a ≡ false
 unswept_absent w s i a x member collected unswept = unmet_absent w s i a (λ d known is. false_from_ne_true (is_due w s d) (λ due.
     let opened : IsTrue (is_opened w s (Some x)) = subst (λ m. IsTrue (is_opened w s m)) (member d known is)
-        (and_r (is_collected w d.slot.target) (is_opened w s d.member) (and_l _ _ due)) in
+    (and_r (is_collected w d.slot.target) (is_opened w s d.member) (and_l _ _ due)) in
     elim (or_cases (has w.older x) (is_swept s x) opened) [
       | inl old ↦ both_ways (has w.older x) (not-true (has w.older x) collected) old
       | inr swept ↦ both_ways (is_swept s x) unswept swept

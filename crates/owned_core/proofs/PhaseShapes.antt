@@ -8,7 +8,7 @@ use Rattle.trace_types.specs.Values.{key_of, value_of}
 use Rattle.trace_types.specs.Kept.{is_dead, is_unordered, is_ordered, is_candidate, ready}
 use Rattle.owned_core.specs.Dues.{always, as_though_dues, as_though_object, base_dues, entry_slots, ephemeron_dues, field_name, guardian_slot, is_weak, keep_at, keep_nowhere, key_slots, lock_dues, object_dues, of_member, owner_in, ready_dues, register_dues, registration_dues, representative_dues, served_dues, setting, strong_dues, unready_dues, wait_slots, watch_at, weak_dues}
 use Rattle.owned_core.specs.Invariants.{HasWatches, IsWatchFor}
-use Rattle.owned_core.specs.Parts.{HoldsWell, alone}
+use Rattle.owned_core.specs.Parts.{HoldsWell}
 use Rattle.owned_core.specs.Settings.{Setting}
 use Rattle.owned_core.specs.Slots.{Due, Slot, is_keep}
 use Rattle.owned_core.proofs.Lists.{contains_cases, contains_here, contains_none, contains_there, filter_some, map_some, some_map}

@@ -1,7 +1,7 @@
 -- Where the sweepers have nothing left to do.
-use Rattle.std.proofs.Common.{◌≡◌, ℕ, Bool, true, false, not, ◌||◌, ◌&&◌, ◌==◌, ◌⊎◌, List, cond, Contains, IsTrue, refl, sym, ap, subst, ◌∙◌, inl, inr}
+use Rattle.std.proofs.Common.{◌≡◌, ℕ, Bool, true, false, not, ◌&&◌, ◌==◌, ◌⊎◌, cond, Contains, IsTrue, refl, sym, ap, subst, ◌∙◌, inl, inr}
 use Rattle.std.specs.List.{list_any}
-use Rattle.std.proofs.lemmas.Bool.{and_from, eqb-true, eq-eqb, cases_Bool, both_ways, not-true, false≢true, not_from_false, false_from_ne_true}
+use Rattle.std.proofs.lemmas.Bool.{and_from, eqb-true, eq-eqb, cases_Bool, both_ways, false≢true, not_from_false, false_from_ne_true}
 use Rattle.trace_types.specs.Rules.{has}
 use Rattle.owned_core.specs.Events.{Answer, Deliver, Event, Fix, Forward, Sweep, can_happen, is_heard_keep, is_place_for, is_sent, may_answer, may_deliver, may_fix, may_forward, may_sweep}
 use Rattle.owned_core.specs.Invariants.{Invariant, IsIdle, rests}
@@ -18,11 +18,13 @@ module _ (w : Setting) (s : State) (i : Invariant w s) (room : HasRoom w s) (wor
   -- what is in a list has its pair in the list of its owner
   listed_of : (x : ℕ) → IsTrue (in_list s x) → (p : ℕ) × IsTrue (is_listed s (w.owner x) x p)
   listed_of x h =
-      let r = any_some (λ (e : Entry). e.object == x) s.own h in
-      (r.0.place, some_any (λ (e : Entry). e.sweeper == w.owner x && e.object == x && e.place == r.0.place) s.own r.0 r.1
-      (and_from (r.0.sweeper == w.owner x && r.0.object == x) (r.0.place == r.0.place)
-      (and_from (r.0.sweeper == w.owner x) (r.0.object == x) (eq-eqb r.0.sweeper (w.owner x) (sym (owners w s i r.0 r.1) ∙ ap w.owner (eqb-true r.0.object x r.2))) r.2)
-      (eq-eqb r.0.place r.0.place refl)))
+      let r = any_some (λ (e : Entry). e.object == x) s.own h in (
+        r.0.place,
+        some_any (λ (e : Entry). e.sweeper == w.owner x && e.object == x && e.place == r.0.place) s.own r.0 r.1
+            (and_from (r.0.sweeper == w.owner x && r.0.object == x) (r.0.place == r.0.place)
+            (and_from (r.0.sweeper == w.owner x) (r.0.object == x) (eq-eqb r.0.sweeper (w.owner x) (sym (owners w s i r.0 r.1) ∙ ap w.owner (eqb-true r.0.object x r.2))) r.2)
+            (eq-eqb r.0.place r.0.place refl)),
+      )
 
   -- a heard slot that has a place has its target in no list
   unanswered : (t : Standing) → Contains s.slots t → IsTrue (is_heard t.stage) → IsTrue t.slot.has_place → in_list s t.slot.target ≡ false
@@ -82,11 +84,11 @@ module _ (w : Setting) (s : State) (i : Invariant w s) (room : HasRoom w s) (wor
         let r = any_some (λ (t : Standing). is_sent t.stage) s.slots some in
         inr (r.0.slot, some_any (may_deliver r.0.slot) s.slots r.0 r.1 (and_from (same_slot r.0.slot r.0.slot) (is_sent r.0.stage) (same_slot_itself r.0.slot) r.2))
     | inr no_more ↦ inl (record {
-        all_swept = nobody_left s.unswept (λ x. false_from_ne_true (has s.unswept x) (λ is.
-            both_ways (may_sweep w s (w.owner x) x) (quiet (Sweep (w.owner x) x) refl) (and_from (w.owner x == w.owner x) (has s.unswept x) (eq-eqb (w.owner x) (w.owner x) refl) is)));
-        all_rest = λ t c. rests_by t c t.stage refl (false_from_ne_true (is_sent t.stage) (λ is.
-            both_ways (list_any (λ (t : Standing). is_sent t.stage) s.slots) no_more (some_any (λ (t : Standing). is_sent t.stage) s.slots t c is)));
-      })
+      all_swept = nobody_left s.unswept (λ x. false_from_ne_true (has s.unswept x) (λ is.
+          both_ways (may_sweep w s (w.owner x) x) (quiet (Sweep (w.owner x) x) refl) (and_from (w.owner x == w.owner x) (has s.unswept x) (eq-eqb (w.owner x) (w.owner x) refl) is)));
+      all_rest = λ t c. rests_by t c t.stage refl (false_from_ne_true (is_sent t.stage) (λ is.
+          both_ways (list_any (λ (t : Standing). is_sent t.stage) s.slots) no_more (some_any (λ (t : Standing). is_sent t.stage) s.slots t c is)));
+    })
   ]
 
 pub quiet_is_idle_or_sends : (w : Setting) (s : State) → Invariant w s → HasRoom w s → WatchesHavePlaces w

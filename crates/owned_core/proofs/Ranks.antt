@@ -1,7 +1,7 @@
 -- The rank falls at every event.
-use Rattle.std.proofs.Common.{◌≡◌, ℕ, ◌+◌, ◌*◌, ◌<◌, ◌≤◌, Bool, true, false, not, ◌||◌, ◌&&◌, ◌==◌, List, [], ◌∷◌, ◌++◌, map, filter, length, cond, Contains, IsTrue, refl, sym, ap, subst, ◌∙◌, inl, inr, ◌⊎◌, Option, None, Some, arith}
-use Rattle.std.specs.List.{list_any, list_all}
-use Rattle.std.proofs.lemmas.Bool.{or_cases, or_left, or_right, and_from, eqb-true, eq-eqb, cases_Bool, both_ways, not-true, false≢true, not_from_false, false_from_ne_true, or_parts}
+use Rattle.std.proofs.Common.{◌≡◌, ℕ, ◌+◌, ◌*◌, ◌<◌, ◌≤◌, Bool, true, false, not, ◌||◌, ◌&&◌, ◌==◌, List, [], ◌∷◌, map, length, cond, Contains, IsTrue, refl, sym, ap, subst, ◌∙◌, inl, inr, Option, None, Some, arith}
+use Rattle.std.specs.List.{list_any}
+use Rattle.std.proofs.lemmas.Bool.{or_left, or_right, eqb-true, eq-eqb, cases_Bool, both_ways, not-true, false≢true, or_parts}
 use Rattle.std.proofs.lemmas.List.Folds.{list_any-append}
 use Rattle.trace_types.specs.Rules.{has}
 use Rattle.owned_core.specs.Events.{Adds, Answer, Becomes, Deliver, Event, Fix, Forward, Learn, Sweep, after_answer, after_delivery, after_fix, after_learning, can_happen, delivered, forwarded, is_heard_keep, is_sent, may_answer, may_deliver, may_fix, may_forward, may_learn, moved, swept}
@@ -13,7 +13,6 @@ use Rattle.owned_core.specs.Slots.{Answered, Asked, Fixed, Heard, Slot, Stage, S
 use Rattle.owned_core.proofs.Adding.{adds_once}
 use Rattle.owned_core.proofs.Holding.{at_stage, either, step_holds}
 use Rattle.owned_core.proofs.Lists.{any_some, contains_cases, contains_here, contains_none, contains_there, map_some, some_any, some_map}
-use Rattle.owned_core.proofs.Once.{slots_once}
 use Rattle.owned_core.proofs.Parts.{has_filter}
 use Rattle.owned_core.proofs.SameSlots.{and_l, and_r, same_slot_itself, slot_is}
 
@@ -75,7 +74,7 @@ module _ (f : Option Stage → ℕ) where
     | inl there ↦
         let r = any_some (λ (t : Standing). same_slot t.slot a) s.slots there in
         let same : stage_of ts a ≡ stage_of s.slots a =
-            found ts (adds_once w s ts h once) r.0 (h.stays r.0 r.1) a r.2 ∙ sym (found s.slots once r.0 r.1 a r.2) in
+        found ts (adds_once w s ts h once) r.0 (h.stays r.0 r.1) a r.2 ∙ sym (found s.slots once r.0 r.1 a r.2) in
         subst (λ g. f (stage_of ts a) ≤ f g) same (omega arith)
     | inr absent ↦ subst (λ g. f (stage_of ts a) ≤ f g) (sym (missing s.slots a absent)) (top (stage_of ts a))
   ]
@@ -158,8 +157,11 @@ module _ (f : Option Stage → ℕ) (low : IsLowered f) where
   stages_less w s t (Answer k c p) once b a = subst (λ (z : State). f (stage_of z.slots a) ≤ f (stage_of s.slots a)) (sym b)
       (moved_less f (after_answer w s k c p) (answer_less w s k c p) s.slots a)
   stages_less w s t (Fix k c p) once b a = subst (λ (z : State). f (stage_of z.slots a) ≤ f (stage_of s.slots a)) (sym b.2)
-      (omega (arith, adds_less f low.top w (moved s (after_fix k c p)) b.0 b.1 (once_moved s (after_fix k c p) once) a,
-      moved_less f (after_fix k c p) (fix_less k c p) s.slots a))
+      (omega (
+        arith,
+        adds_less f low.top w (moved s (after_fix k c p)) b.0 b.1 (once_moved s (after_fix k c p) once) a,
+        moved_less f (after_fix k c p) (fix_less k c p) s.slots a,
+      ))
   stages_less w s t (Deliver c) once b a = subst (λ (z : State). f (stage_of z.slots a) ≤ f (stage_of s.slots a)) (sym b)
       (moved_less f (after_delivery c) (deliver_less c) s.slots a)
   stages_less w s t (Learn k c p) once b a = subst (λ (z : State). f (stage_of z.slots a) ≤ f (stage_of s.slots a)) (sym b)
@@ -380,8 +382,8 @@ module _ (w : Setting) (names : List Slot) (covers : Covers w names) (s : State)
       at u c may_u =
           let told : IsTrue (is_told_at u.stage p) = search (and_l, and_r) in
           let here = moved_falls slot_rank s (after_fix k a p) i.slots_once u c
-              (subst (λ g. slot_rank (Some (after_fix k a p u)) < slot_rank (Some g)) (sym (told_is u.stage p told))
-              (chosen_falls (may_fix k a p u) (Fixed p) u.stage (Told p) may_u (omega arith))) in
+          (subst (λ g. slot_rank (Some (after_fix k a p u)) < slot_rank (Some g)) (sym (told_is u.stage p told))
+          (chosen_falls (may_fix k a p u) (Fixed p) u.stage (Told p) may_u (omega arith))) in
           by_slot t (Fix k a p) b u c (subst (λ (z : State). slot_rank (stage_of z.slots u.slot) < slot_rank (stage_of s.slots u.slot)) (sym b.2)
           (omega (arith, here, adds_less slot_rank rank_lowered.top w (moved s (after_fix k a p)) b.0 b.1 (once_moved s (after_fix k a p) i.slots_once) u.slot)))
   falls t (Deliver a) b may = at r.0 r.1 r.2

@@ -1,24 +1,19 @@
 -- What an idle state has, and what it gives to the next phase.
-use Rattle.std.proofs.Common.{◌≡◌, nat_eq, ℕ, Bool, true, false, not, ◌||◌, ◌&&◌, ◌==◌, ◌⊎◌, List, [], ◌∷◌, ◌++◌, map, filter, cond, Contains, IsTrue, refl, sym, ap, subst, ◌∙◌, inl, inr, Option, None, Some}
+use Rattle.std.proofs.Common.{◌≡◌, ℕ, Bool, true, false, not, ◌||◌, ◌&&◌, ◌==◌, ◌⊎◌, List, [], ◌++◌, map, filter, cond, Contains, IsTrue, refl, sym, subst, ◌∙◌, inl, inr, Option, None, Some}
 use Rattle.std.specs.List.{list_any, list_all, IsDistinct}
-use Rattle.std.proofs.lemmas.Bool.{or_cases, or_right, or_left, and_parts, and_from, eqb-true, eq-eqb, cases_Bool, both_ways, not-true, false≢true, not_from_false, false_from_ne_true, or_parts}
+use Rattle.std.proofs.lemmas.Bool.{or_cases, or_right, or_left, and_from, eqb-true, eq-eqb, cases_Bool, both_ways, not-true, false≢true, not_from_false}
 use Rattle.std.proofs.lemmas.List.Folds.{list_any-append}
-use Rattle.std.proofs.lemmas.List.{map-append}
-use Rattle.std.proofs.lemmas.Map.Keys.{IsDistinct-push}
-use Rattle.std.specs.Cmp.{nat_eq_equiv}
-use Rattle.std.proofs.lemmas.List.Elements.{Contains-append_left, Contains-append_right, Contains-append_cases, Contains-push, Contains-push_cases, All-contains, All-weaker, All-contains_itself}
-use Rattle.trace_types.specs.Rules.{Rule, has, ◌⊆◌, least, meets, IsAmong, facts}
-use Rattle.trace_types.proofs.Least.{least_meets, least_induct, least_among, meets_use, has_all_from, facts_there, MeetsAll-append}
+use Rattle.std.proofs.lemmas.List.Elements.{Contains-append_left, Contains-append_right, Contains-append_cases, All-weaker, All-contains_itself}
+use Rattle.trace_types.specs.Rules.{Rule, has, least, IsAmong, facts}
+use Rattle.trace_types.proofs.Least.{least_meets, least_induct, least_among, facts_there, MeetsAll-append}
 use Rattle.owned_core.specs.Changes.{begins, drops_none, forgets, next_phase, without_watches}
 use Rattle.owned_core.specs.Invariants.{HasWatches, Invariant, IsConfirmed, IsIdle, IsOfDue, IsWatchFor, is_vouched, rests}
 use Rattle.owned_core.specs.Owned.{Entry, State, in_list, is_due, is_fixed_watch, is_kept, is_met, is_opened, is_swept, nothing_yet, with_slots}
-use Rattle.owned_core.specs.Parts.{alone}
 use Rattle.owned_core.specs.Settings.{Setting, all_dues, is_collected, rule_of, rules_of}
 use Rattle.owned_core.specs.Slots.{Answered, Asked, Due, Fixed, Heard, Slot, Stage, Standing, Told, is_at, is_fixed, is_keep, keeps, member_list, same_slot}
 use Rattle.owned_core.proofs.Adding.{Base, base_of, listed_in_list, listed_member, vouched_cases, with_slots_holds}
 use Rattle.owned_core.proofs.Holding.{vouched_listed}
 use Rattle.owned_core.proofs.Lists.{all_at, all_each, any_some, contains_none, filter_some, map_some, some_any, some_filter, some_map}
-use Rattle.owned_core.proofs.Once.{slots_once}
 use Rattle.owned_core.proofs.SameSlots.{and_l, and_r, same_slot_keep, same_slot_target, slot_is}
 
 -- ---- at rest

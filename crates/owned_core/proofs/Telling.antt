@@ -1,14 +1,8 @@
 -- The invariant in the words of its five parts.
-use Rattle.std.proofs.Common.{◌≡◌, nat_eq, ℕ, Bool, true, false, not, ◌||◌, ◌&&◌, ◌==◌, ◌⊎◌, List, [], ◌∷◌, ◌++◌, map, filter, cond, Contains, IsTrue, refl, sym, ap, subst, ◌∙◌, inl, inr, Option, None, Some}
-use Rattle.std.specs.List.{list_any, list_all, IsDistinct}
-use Rattle.std.proofs.lemmas.Bool.{or_cases, or_right, or_left, and_parts, and_from, eqb-true, eq-eqb, cases_Bool, both_ways, not-true, false≢true, not_from_false, false_from_ne_true, or_parts}
-use Rattle.std.proofs.lemmas.List.Folds.{list_any-append}
-use Rattle.std.proofs.lemmas.List.{map-append}
-use Rattle.std.proofs.lemmas.Map.Keys.{IsDistinct-push}
-use Rattle.std.specs.Cmp.{nat_eq_equiv}
-use Rattle.std.proofs.lemmas.List.Elements.{Contains-append_left, Contains-append_right, Contains-append_cases, Contains-push, Contains-push_cases, All-contains, All-weaker, All-contains_itself}
-use Rattle.trace_types.specs.Rules.{Rule, has, ◌⊆◌, least, meets, IsAmong, facts}
-use Rattle.trace_types.proofs.Least.{least_meets, least_induct, least_among, meets_use, has_all_from, facts_there, MeetsAll-append}
+use Rattle.std.proofs.Common.{ℕ, Bool, not, ◌&&◌, ◌==◌, Contains, IsTrue, refl, sym, subst, ◌∙◌, inl, inr, Option, None, Some}
+use Rattle.std.specs.List.{list_all}
+use Rattle.std.proofs.lemmas.Bool.{or_cases, or_right, or_left, and_from, eq-eqb, cases_Bool, false≢true, not_from_false}
+use Rattle.trace_types.specs.Rules.{has}
 use Rattle.owned_core.specs.Invariants.{Invariant, StatedParts}
 use Rattle.owned_core.specs.Owned.{State, in_list, is_due, is_kept, is_met, is_opened, is_swept, is_there, nothing_yet}
 use Rattle.owned_core.specs.Settings.{Setting, is_collected}
@@ -16,7 +10,6 @@ use Rattle.owned_core.specs.Slots.{Due, Slot, Standing, is_keep, same_slot}
 use Rattle.owned_core.proofs.Adding.{vouched_cases}
 use Rattle.owned_core.proofs.Holding.{vouched_believed, vouched_listed}
 use Rattle.owned_core.proofs.Lists.{all_each, any_some, some_any}
-use Rattle.owned_core.proofs.Once.{slots_once}
 use Rattle.owned_core.proofs.SameSlots.{same_slot_keep, same_slot_target}
 
 -- ---- the five parts

@@ -1,8 +1,8 @@
 -- What every event keeps, and what an idle state is.
-use Rattle.std.specs.Prelude.{◌≡◌, ℕ, Bool, true, false, not, ◌||◌, ◌&&◌, ◌==◌, nat_eq, Option, None, Some, List, [], map, Contains, IsTrue, ◌⊎◌, if◌then◌else◌}
+use Rattle.std.specs.Prelude.{◌≡◌, ℕ, Bool, true, false, not, ◌||◌, ◌&&◌, ◌==◌, nat_eq, None, Some, [], map, Contains, IsTrue, ◌⊎◌, if◌then◌else◌}
 use Rattle.std.specs.List.{IsDistinct}
 use Rattle.trace_types.specs.Rules.{has, least}
-use Rattle.owned_core.specs.Slots.{Want, Stage, Asked, Heard, Answered, Told, Fixed, Slot, Standing, Due, is_keep, same_slot, keeps, is_at}
+use Rattle.owned_core.specs.Slots.{Stage, Asked, Heard, Answered, Told, Fixed, Slot, Standing, Due, is_keep, same_slot, keeps, is_at}
 use Rattle.owned_core.specs.Settings.{Setting, is_collected, rules_of, all_dues}
 use Rattle.owned_core.specs.Owned.{Entry, State, nothing_yet, in_list, is_listed, is_swept, is_kept, is_there, is_met, is_opened, is_due}
 

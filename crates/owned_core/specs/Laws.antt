@@ -1,5 +1,5 @@
 -- The laws of the whole state.
-use Rattle.std.specs.Prelude.{◌≡◌, ℕ, Bool, false, ◌&&◌, Option, Some, List, [], ◌++◌, Contains, IsTrue}
+use Rattle.std.specs.Prelude.{◌≡◌, ℕ, Bool, false, ◌&&◌, Some, List, [], ◌++◌, Contains, IsTrue}
 use Rattle.trace_types.specs.Rules.{has, least}
 use Rattle.owned_core.specs.Slots.{Slot, Standing, Due, same_slot}
 use Rattle.owned_core.specs.Settings.{Setting, HasPlaces, is_collected, rules_of, all_dues}

@@ -1,8 +1,8 @@
 -- The state of the owned core: what each sweeper has forwarded, what of it is unswept, and the slots.
-use Rattle.std.specs.Prelude.{ℕ, Bool, true, false, not, ◌||◌, ◌&&◌, ◌==◌, Option, None, Some, List, [], ◌∷◌, ◌++◌, filter, if◌then◌else◌}
+use Rattle.std.specs.Prelude.{ℕ, Bool, true, not, ◌||◌, ◌&&◌, ◌==◌, Option, None, Some, List, [], ◌∷◌, ◌++◌, if◌then◌else◌}
 use Rattle.std.specs.List.{list_any, list_all}
 use Rattle.trace_types.specs.Rules.{has}
-use Rattle.owned_core.specs.Slots.{Want, Keep, Watch, Stage, Asked, Heard, Slot, Standing, Due, is_keep, same_slot, is_fixed}
+use Rattle.owned_core.specs.Slots.{Asked, Heard, Slot, Standing, Due, is_keep, same_slot, is_fixed}
 use Rattle.owned_core.specs.Settings.{Setting, is_collected}
 
 -- one pair of the list of a sweeper: the object was forwarded to the place

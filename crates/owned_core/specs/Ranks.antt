@@ -4,7 +4,7 @@ use Rattle.trace_types.specs.Rules.{has}
 use Rattle.owned_core.specs.Slots.{Stage, Asked, Heard, Answered, Told, Fixed, Slot, Standing, Due, keeps, same_slot}
 use Rattle.owned_core.specs.Settings.{Setting, HasPlaces, all_dues}
 use Rattle.owned_core.specs.Owned.{State, in_list}
-use Rattle.owned_core.specs.Events.{Event, Forward, Sweep, Answer, Fix, Deliver, Learn, is_place_for, can_happen, Becomes}
+use Rattle.owned_core.specs.Events.{Event, Deliver, Learn, is_place_for, can_happen, Becomes}
 use Rattle.owned_core.specs.Invariants.{Invariant, IsIdle}
 
 -- how far the slot is, where it is there

@@ -1,5 +1,5 @@
 -- Small runs of two sweepers, computed to their ends. Sweeper 0 owns the even objects, sweeper 1 the odd ones.
-use Rattle.std.specs.Prelude.{◌≡◌, ℕ, ◌+◌, ◌%◌, Bool, true, false, ◌&&◌, ◌==◌, Option, None, Some, List, [], ◌∷◌}
+use Rattle.std.specs.Prelude.{◌≡◌, ℕ, ◌+◌, ◌%◌, Bool, true, false, ◌&&◌, ◌==◌, None, Some, List, [], ◌∷◌}
 use Rattle.std.specs.List.{list_all}
 use Rattle.trace_types.specs.declared.kind.Kind.TheVariants.{Eph}
 use Rattle.trace_types.specs.Values.{Object, object}

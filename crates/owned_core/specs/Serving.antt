@@ -7,7 +7,7 @@ use Rattle.owned_core.specs.Changes.{begins, drops_none, next_phase}
 use Rattle.owned_core.specs.Dues.{as_though_dues, base_dues, ready_dues, served_dues, setting, unready_dues}
 use Rattle.owned_core.specs.Events.{Event, Reaches}
 use Rattle.owned_core.specs.Invariants.{IsConfirmed, IsIdle}
-use Rattle.owned_core.specs.Owned.{State, begun, in_list, nothing_yet, with_slots}
+use Rattle.owned_core.specs.Owned.{State, in_list, nothing_yet, with_slots}
 use Rattle.owned_core.specs.Settings.{HasPlaces, Setting}
 use Rattle.owned_core.specs.Slots.{Slot}
 

@@ -1,7 +1,7 @@
 -- What a phase of a collection is given, and its rules.
 use Rattle.std.specs.Prelude.{◌≡◌, ℕ, Bool, not, List, ◌++◌, map, filter, IsTrue}
 use Rattle.trace_types.specs.Rules.{Rule, has, facts}
-use Rattle.owned_core.specs.Slots.{Slot, Due, keeps, member_list}
+use Rattle.owned_core.specs.Slots.{Due, keeps, member_list}
 
 pub record Setting : Type 0 where
   pub older : List ℕ  -- the objects that are not collected
