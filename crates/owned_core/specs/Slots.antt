@@ -1,31 +1,14 @@
 -- Slots: what a sweeper asks the owner of an object for, and how far each request is.
 use Rattle.std.specs.Prelude.{ℕ, Bool, true, false, not, ◌&&◌, ◌==◌, Option, None, Some, List, [], ◌∷◌}
 
--- Keep: the object is to be forwarded. Watch: its place is to be told if something else keeps it.
-pub data Want : Type 0 where
-  Keep Watch : Want
-
--- Asked: the holder has it, and the owner has not heard of it. Heard: the owner has it. Answered: the owner has
--- found the new place, and the holder does not know it yet. Told: the holder knows the place. Fixed: the place is
--- written, and for a watched premise the rules were looked at.
-pub data Stage : Type 0 where
-  Asked Heard : Stage
-  Answered Told Fixed : (place : ℕ) → Stage
-
--- A word of the heap, a register, a part of a registration or a rule that refers to an object, the target. The
--- name is the number of that word; the holder is the sweeper that has it. One without a place, which is that of a
--- lock or of a rule whose conclusion stands nowhere, is never answered.
-pub record Slot : Type 0 where
-  pub name : ℕ
-  pub holder : ℕ
-  pub target : ℕ
-  pub want : Want
-  pub has_place : Bool
-
--- a slot and how far it is
-pub record Standing : Type 0 where
-  pub slot : Slot
-  pub stage : Stage
+-- A slot has a name, a holder, a target, a want and whether there is a word for its place. It wants its target to be
+-- kept, or watches it. It is Asked, Heard, Answered, Told or Fixed, from then on with the place.
+pub use Rattle.owned_core.specs.declared.slot.Want.{Want}
+pub use Rattle.owned_core.specs.declared.slot.Want.TheVariants.{Keep, Watch}
+pub use Rattle.owned_core.specs.declared.slot.Stage.{Stage}
+pub use Rattle.owned_core.specs.declared.slot.Stage.TheVariants.{Asked, Heard, Answered, Told, Fixed}
+pub use Rattle.owned_core.specs.declared.slot.Slot.{Slot}
+pub use Rattle.owned_core.specs.declared.slot.Standing.{Standing}
 
 -- A slot that is due where the member is older or swept, or there is none, and each watched premise is met.
 -- `watched` has the Watch slots of these premises: one is met where its target is older or it is Fixed.
