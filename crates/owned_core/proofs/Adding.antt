@@ -28,11 +28,11 @@ pub there_more : (ts us : List Standing) → ((t : Standing) → Contains ts t �
 there_more ts us sub a h = let r = any_some (λ t. same_slot t.slot a) ts h in some_any (λ t. same_slot t.slot a) us r.0 (sub r.0 r.1) r.2
 
 module _ (w : Setting) (due : Due → Bool) where
-  with_due_keeps : (ds : List Due) (ts : List Standing) (t : Standing) → Contains ts t → Contains (with_due w due ts ds) t
+  pub with_due_keeps : (ds : List Due) (ts : List Standing) (t : Standing) → Contains ts t → Contains (with_due w due ts ds) t
   with_due_keeps [] ts t h = h
   with_due_keeps (d ∷ ds) ts t h = with_due_keeps ds _ t (added_keeps (due d && not (is_there ts d.slot)) ts (begun w d.slot) t h)
 
-  with_due_from : (ds : List Due) (ts : List Standing) (t : Standing) → Contains (with_due w due ts ds) t → Contains ts t ⊎ ((d : Due) × Contains ds d × IsTrue (due d) × (begun w d.slot ≡ t) × (is_there ts d.slot ≡ false))
+  pub with_due_from : (ds : List Due) (ts : List Standing) (t : Standing) → Contains (with_due w due ts ds) t → Contains ts t ⊎ ((d : Due) × Contains ds d × IsTrue (due d) × (begun w d.slot ≡ t) × (is_there ts d.slot ≡ false))
   with_due_from [] ts t h = inl h
   with_due_from (d ∷ ds) ts t h = elim (with_due_from ds _ t h) [
     | inl e ↦ elim (added_cases (due d && not (is_there ts d.slot)) ts (begun w d.slot) t e) [
@@ -64,7 +64,7 @@ module _ (w : Setting) (due : Due → Bool) where
       now : e ≡ d → IsTrue (is_there (cond (due e && not (is_there ts e.slot)) (ts ++ begun w e.slot ∷ []) ts) d.slot)
       now same = subst (λ z. IsTrue (is_there (cond (due z && not (is_there ts z.slot)) (ts ++ begun w z.slot ∷ []) ts) d.slot)) (sym same) (here (is_there ts d.slot) refl)
 
-begun_not_fixed : (w : Setting) (a : Slot) → is_fixed (begun w a).stage ≡ false
+pub begun_not_fixed : (w : Setting) (a : Slot) → is_fixed (begun w a).stage ≡ false
 begun_not_fixed w a = elim (w.owner a.target == a.holder) as (λ b. is_fixed (cond b Heard Asked) ≡ false) [ true ↦ refl | false ↦ refl ]
 
 begun_not_at : (w : Setting) (a : Slot) (p : ℕ) → is_at (begun w a).stage p ≡ false

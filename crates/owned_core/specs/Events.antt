@@ -9,13 +9,8 @@ use Rattle.owned_core.specs.Owned.{State, in_list, is_taken, is_listed, is_there
 -- Sweeper k forwards x to the place p. It sweeps an object of its list, or one of the slots that it has in hand:
 -- it answers one that it heard with the place p, or fixes one that it was told. A slot is delivered to the owner
 -- of its target, or back to its holder. Sweeper k learns the place from the object's forwarding word.
-pub data Event : Type 0 where
-  Forward : (k x p : ℕ) → Event
-  Sweep : (k x : ℕ) → Event
-  Answer : (k : ℕ) → Slot → (p : ℕ) → Event
-  Fix : (k : ℕ) → Slot → (p : ℕ) → Event
-  Deliver : Slot → Event
-  Learn : (k : ℕ) → Slot → (p : ℕ) → Event
+pub use Rattle.owned_core.specs.declared.event.Event.{Event}
+pub use Rattle.owned_core.specs.declared.event.Event.TheVariants.{Forward, Sweep, Answer, Fix, Deliver, Learn}
 
 -- ---- when it can happen
 

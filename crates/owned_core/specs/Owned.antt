@@ -5,11 +5,8 @@ use Rattle.trace_types.specs.Rules.{has}
 use Rattle.owned_core.specs.Slots.{Asked, Heard, Slot, Standing, Due, is_keep, same_slot, is_fixed}
 use Rattle.owned_core.specs.Settings.{Setting, is_collected}
 
--- one pair of the list of a sweeper: the object was forwarded to the place
-pub record Entry : Type 0 where
-  pub sweeper : ℕ
-  pub object : ℕ
-  pub place : ℕ
+-- one pair of the list of a sweeper: the sweeper, the object, and the place that it was forwarded to
+pub use Rattle.owned_core.specs.declared.machine.Entry.{Entry}
 
 -- the lists of all sweepers, the objects in them that are unswept, and each slot with its stage
 pub record State : Type 0 where
