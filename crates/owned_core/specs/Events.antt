@@ -5,7 +5,6 @@ use Rattle.trace_types.specs.Rules.{has}
 use Rattle.owned_core.specs.Slots.{Stage, Asked, Heard, Answered, Told, Fixed, Slot, Standing, Due, is_keep, same_slot, is_asked, is_heard, is_told_at}
 use Rattle.owned_core.specs.Settings.{Setting}
 use Rattle.owned_core.specs.Owned.{State, in_list, is_taken, is_listed, is_there, is_due, begun, with_slots}
-
 -- Sweeper k forwards x to the place p. It sweeps an object of its list, or one of the slots that it has in hand:
 -- it answers one that it heard with the place p, or fixes one that it was told. A slot is delivered to the owner
 -- of its target, or back to its holder. Sweeper k learns the place from the object's forwarding word.

@@ -4,7 +4,6 @@ use Rattle.std.specs.List.{list_any, list_all}
 use Rattle.trace_types.specs.Rules.{has}
 use Rattle.owned_core.specs.Slots.{Asked, Heard, Slot, Standing, Due, is_keep, same_slot, is_fixed}
 use Rattle.owned_core.specs.Settings.{Setting, is_collected}
-
 -- one pair of the list of a sweeper: the sweeper, the object, and the place that it was forwarded to
 pub use Rattle.owned_core.specs.declared.machine.Entry.{Entry}
 

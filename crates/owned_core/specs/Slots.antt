@@ -1,6 +1,5 @@
 -- Slots: what a sweeper asks the owner of an object for, and how far each request is.
 use Rattle.std.specs.Prelude.{ℕ, Bool, true, false, not, ◌&&◌, ◌==◌, Option, None, Some, List, [], ◌∷◌}
-
 -- A slot has a name, a holder, a target, a want and whether there is a word for its place. It wants its target to be
 -- kept, or watches it. It is Asked, Heard, Answered, Told or Fixed, from then on with the place.
 pub use Rattle.owned_core.specs.declared.slot.Want.{Want}

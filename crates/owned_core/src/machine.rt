@@ -49,8 +49,16 @@ fn is_keep(want: Want) -> bool
 fn same_slot(a: Slot, b: Slot) -> bool
     ensures { result ≡ slots.same_slot a b }
 {
-    let want = if is_keep(a.want) { is_keep(b.want) } else { !is_keep(b.want) };
-    let place = if a.has_place { b.has_place } else { !b.has_place };
+    let want = if is_keep(a.want) {
+        is_keep(b.want)
+    } else {
+        !is_keep(b.want)
+    };
+    let place = if a.has_place {
+        b.has_place
+    } else {
+        !b.has_place
+    };
     a.target == b.target && want && a.name == b.name && a.holder == b.holder && place
 }
 
@@ -125,7 +133,11 @@ fn begun(plan: &Plan, slot: Slot) -> Standing
     requires { 0 < plan.now.sweepers }
     ensures { result ≡ owned.begun (setting_of plan.now) slot }
 {
-    let stage = if slot.target % plan.sweepers == slot.holder { Stage::Heard } else { Stage::Asked };
+    let stage = if slot.target % plan.sweepers == slot.holder {
+        Stage::Heard
+    } else {
+        Stage::Asked
+    };
     Standing { slot, stage }
 }
 
@@ -148,7 +160,9 @@ impl Machine {
     fn is_listed(&self, k: u64, x: u64, p: u64) -> bool
         ensures { result ≡ owned.is_listed (state_of self.now) k x p }
     {
-        self.own.iter().any(|e| e.sweeper == k && e.object == x && e.place == p)
+        self.own
+            .iter()
+            .any(|e| e.sweeper == k && e.object == x && e.place == p)
     }
 
     /// Whether the Watch slot is there and fixed.
@@ -202,7 +216,11 @@ impl Machine {
     fn is_place_for(&self, plan: &Plan, x: u64, p: u64) -> bool
         ensures { result ≡ events.is_place_for (setting_of plan.now) (state_of self.now) x p }
     {
-        if has(&plan.staying, x) { p == x } else { !self.is_taken(p) && !(p < plan.first_new) }
+        if has(&plan.staying, x) {
+            p == x
+        } else {
+            !self.is_taken(p) && !(p < plan.first_new)
+        }
     }
 
     /// Whether the sweeper can forward the object to the place.
@@ -244,7 +262,11 @@ impl Machine {
         ensures { OnOk result (state_of self.new ≡ events.happens (setting_of plan.now) (state_of self.old) (events.Forward k x p)) }
     {
         if self.may_forward(plan, k, x, p) {
-            self.own.push(Entry { sweeper: k, object: x, place: p })?;
+            self.own.push(Entry {
+                sweeper: k,
+                object: x,
+                place: p,
+            })?;
             self.unswept.push(x)?;
         }
         Ok(())
@@ -263,18 +285,35 @@ impl Machine {
     }
 
     /// The slots after an answer. Takes memory.
-    fn slots_after_answer(&self, alloc: Global, plan: &Plan, k: u64, a: Slot, p: u64) -> Result<Vec<Standing>, AllocError>
+    fn slots_after_answer(
+        &self,
+        alloc: Global,
+        plan: &Plan,
+        k: u64,
+        a: Slot,
+        p: u64,
+    ) -> Result<Vec<Standing>, AllocError>
         requires { 0 < plan.now.sweepers }
         ensures { IfOk result (λ v. v.items ≡ map (at_stage (events.after_answer (setting_of plan.now) (state_of self.now) k a p)) self.now.slots.items) }
     {
         self.slots
             .iter()
-            .map(|t| Standing { slot: t.slot, stage: self.after_answer(plan, k, a, p, *t) })
+            .map(|t| Standing {
+                slot: t.slot,
+                stage: self.after_answer(plan, k, a, p, *t),
+            })
             .collect(alloc)
     }
 
     /// Answers a slot, where that can happen.
-    fn answer(&mut self, alloc: Global, plan: &Plan, k: u64, a: Slot, p: u64) -> Result<(), AllocError>
+    fn answer(
+        &mut self,
+        alloc: Global,
+        plan: &Plan,
+        k: u64,
+        a: Slot,
+        p: u64,
+    ) -> Result<(), AllocError>
         requires { 0 < plan.now.sweepers }
         ensures { OnOk result (state_of self.new ≡ events.happens (setting_of plan.now) (state_of self.old) (events.Answer k a p)) }
     {
@@ -284,12 +323,21 @@ impl Machine {
     }
 
     /// The slots after the event of that name. Takes memory.
-    fn slots_after_fix(&self, alloc: Global, k: u64, a: Slot, p: u64) -> Result<Vec<Standing>, AllocError>
+    fn slots_after_fix(
+        &self,
+        alloc: Global,
+        k: u64,
+        a: Slot,
+        p: u64,
+    ) -> Result<Vec<Standing>, AllocError>
         ensures { IfOk result (λ v. v.items ≡ map (at_stage (events.after_fix k a p)) self.now.slots.items) }
     {
         self.slots
             .iter()
-            .map(|t| Standing { slot: t.slot, stage: after_fix(k, a, p, *t) })
+            .map(|t| Standing {
+                slot: t.slot,
+                stage: after_fix(k, a, p, *t),
+            })
             .collect(alloc)
     }
 
@@ -310,7 +358,10 @@ impl Machine {
     {
         self.slots
             .iter()
-            .map(|t| Standing { slot: t.slot, stage: after_delivery(a, *t) })
+            .map(|t| Standing {
+                slot: t.slot,
+                stage: after_delivery(a, *t),
+            })
             .collect(alloc)
     }
 
@@ -325,18 +376,35 @@ impl Machine {
     }
 
     /// The slots after the event of that name. Takes memory.
-    fn slots_after_learning(&self, alloc: Global, plan: &Plan, k: u64, a: Slot, p: u64) -> Result<Vec<Standing>, AllocError>
+    fn slots_after_learning(
+        &self,
+        alloc: Global,
+        plan: &Plan,
+        k: u64,
+        a: Slot,
+        p: u64,
+    ) -> Result<Vec<Standing>, AllocError>
         requires { 0 < plan.now.sweepers }
         ensures { IfOk result (λ v. v.items ≡ map (at_stage (events.after_learning (setting_of plan.now) (state_of self.now) k a p)) self.now.slots.items) }
     {
         self.slots
             .iter()
-            .map(|t| Standing { slot: t.slot, stage: self.after_learning(plan, k, a, p, *t) })
+            .map(|t| Standing {
+                slot: t.slot,
+                stage: self.after_learning(plan, k, a, p, *t),
+            })
             .collect(alloc)
     }
 
     /// Learns the place of a slot, where that can happen.
-    fn learn(&mut self, alloc: Global, plan: &Plan, k: u64, a: Slot, p: u64) -> Result<(), AllocError>
+    fn learn(
+        &mut self,
+        alloc: Global,
+        plan: &Plan,
+        k: u64,
+        a: Slot,
+        p: u64,
+    ) -> Result<(), AllocError>
         requires { 0 < plan.now.sweepers }
         ensures { OnOk result (state_of self.new ≡ events.happens (setting_of plan.now) (state_of self.old) (events.Learn k a p)) }
     {
@@ -352,12 +420,28 @@ impl Machine {
         ensures { OnOk result (state_of self.new ≡ events.happens (setting_of plan.now) (state_of self.old) event) }
     {
         match event {
-            Event::Forward { sweeper, object, place } => self.forward(plan, sweeper, object, place),
+            Event::Forward {
+                sweeper,
+                object,
+                place,
+            } => self.forward(plan, sweeper, object, place),
             Event::Sweep { sweeper, object } => self.sweep(plan, sweeper, object),
-            Event::Answer { sweeper, slot, place } => self.answer(alloc, plan, sweeper, slot, place),
-            Event::Fix { sweeper, slot, place } => self.fix(alloc, plan, sweeper, slot, place),
+            Event::Answer {
+                sweeper,
+                slot,
+                place,
+            } => self.answer(alloc, plan, sweeper, slot, place),
+            Event::Fix {
+                sweeper,
+                slot,
+                place,
+            } => self.fix(alloc, plan, sweeper, slot, place),
             Event::Deliver { slot } => self.deliver(alloc, plan, slot),
-            Event::Learn { sweeper, slot, place } => self.learn(alloc, plan, sweeper, slot, place),
+            Event::Learn {
+                sweeper,
+                slot,
+                place,
+            } => self.learn(alloc, plan, sweeper, slot, place),
         }
     }
 
@@ -366,7 +450,11 @@ impl Machine {
         requires { 0 < plan.now.sweepers }
         ensures { IfOk result (λ m. state_of m ≡ owned.with_slots (setting_of plan.now) owned.nothing_yet) }
     {
-        let mut machine = Machine { own: Vec::new(alloc), unswept: Vec::new(alloc), slots: Vec::new(alloc) };
+        let mut machine = Machine {
+            own: Vec::new(alloc),
+            unswept: Vec::new(alloc),
+            slots: Vec::new(alloc),
+        };
         machine.add_due(plan)?;
         Ok(machine)
     }
@@ -382,7 +470,11 @@ impl Machine {
             && t.slot.target % plan.sweepers == k
             && self.is_listed(k, t.slot.target, p);
         if may {
-            if t.slot.holder == k { Stage::Told(p) } else { Stage::Answered(p) }
+            if t.slot.holder == k {
+                Stage::Told(p)
+            } else {
+                Stage::Answered(p)
+            }
         } else {
             t.stage
         }
