@@ -1,5 +1,5 @@
 -- The machine that runs, as a setting and a state of the core.
-use Rattle.std.specs.Prelude.{ℕ, ◌%◌, Bool, false, not, ◌&&◌, nat_lt, List, [], ◌∷◌, ◌++◌, map, if◌then◌else◌}
+use Rattle.std.specs.Prelude.{◌%◌, false, not, ◌&&◌, nat_lt, [], ◌∷◌, ◌++◌, map, if◌then◌else◌}
 use Rattle.trace_types.specs.Rules.{has}
 use Rattle.owned_core.specs.declared.plan.Due.{Due as CodeDue}
 use Rattle.owned_core.specs.declared.plan.Plan.{Plan}
