@@ -54,7 +54,7 @@ impl Address {
     }
 
     /// The address of parts that are known to be in range, with an even offset.
-    #[tactic(auto, using(crate::proofs::LayoutLaws::address_of_parts, crate::proofs::LayoutLaws::address_of_valid), unfolding(crate::specs::Layout::address_of))]
+    #[tactic(auto, using(crate::proofs::LayoutLaws::address_of_valid), unfolding(crate::specs::Layout::address_of))]
     pub fn at(thread: u8, segment: u64, offset: u32) -> Address
         requires { HasParts thread segment offset }
         ensures value { result ≡ address_of thread segment offset }

@@ -51,12 +51,15 @@ without_rights v = record v { rights = 0 }
 abbrev pub split_off : View → View
 split_off v = record { ranges = v.ranges; number = None; floor = v.floor; rights = v.rights; own = []; seen = v.own ++ v.seen }
 
+-- the view has the number n, and has spent a right
 abbrev pub claimed : ℕ → View → View
 claimed n v = record v { number = Some n; floor = n + 1; rights = v.rights - 1 }
 
+-- the view has forwarded one object more
 abbrev pub stored : ℕ → ℕ → View → View
 stored w x v = record v { own = v.own ++ (w, x) ∷ [] }
 
+-- the view has seen one forward more
 abbrev pub saw : ℕ → ℕ → View → View
 saw w x v = record v { seen = v.seen ++ (w, x) ∷ [] }
 
@@ -64,7 +67,9 @@ saw w x v = record v { seen = v.seen ++ (w, x) ∷ [] }
 abbrev pub joined : View → View → View
 joined v u = record v { seen = v.seen ++ (u.own ++ u.seen) }
 
--- What the rule says of one view
+-- What the rule says of one view. Its ranges are the table's, where it is not spent. Its number, if it has one,
+-- and its floor are those of claims that were made. What it forwarded is in words of its range, and these words
+-- are 0 otherwise. What it has seen is in words of some range.
 pub record Fits (ranges words : List ℕ) (v : View) : Type 0 where
   pub ranged : (v.ranges ≡ ranges) ⊎ (v ≡ spent)
   pub number : (k : ℕ) → v.number ≡ Some k → k < slice_index words 0
@@ -73,11 +78,14 @@ pub record Fits (ranges words : List ℕ) (v : View) : Type 0 where
   pub rest : (w : ℕ) → Owns v w → (slice_index words w ≡ 0) ⊎ Records v.own w
   pub seen : (w x : ℕ) → Contains v.seen (w, x) → IsRanged ranges w × (slice_index words w ≡ place_word x)
 
--- The rule
+-- The rule. There is a word 0, and one for each place in a range. Each view fits, and no two have one number.
+-- There are ranges for the numbers claimed and for all rights to claim. The words of a range that no view has
+-- are 0, and each word of a range is 0 or names a place.
 pub record KeepsRule (ranges words : List ℕ) (views : List View) : Type 0 where
   pub size : length words ≡ 1 + sum ranges
   pub each : (id : ℕ) (v : View) → get_elem? views id ≡ some v → Fits ranges words v
-  pub apart : (i j k : ℕ) (v u : View) → get_elem? views i ≡ some v → get_elem? views j ≡ some u → v.number ≡ Some k → u.number ≡ Some k → i ≡ j
+  pub apart : (i j k : ℕ) (v u : View) → get_elem? views i ≡ some v → get_elem? views j ≡ some u
+      → v.number ≡ Some k → u.number ≡ Some k → i ≡ j
   pub rights : slice_index words 0 + sum_by (λ v. v.rights) views ≤ length ranges
   pub unclaimed : (k w : ℕ) → slice_index words 0 ≤ k → IsWithin ranges k w → slice_index words w ≡ 0
   pub places : (w : ℕ) → 0 < w → slice_index words w ≢ 0 → IsPlace (slice_index words w)

@@ -8,6 +8,7 @@ use Rattle.live_forward.specs.declared.hints.HintReceiver.{HintReceiver}
 abbrev pub taken : HintSender → List ℕ
 taken s = ring.sent s.producer
 
+-- for how many targets the ring has room
 abbrev pub ring_capacity : HintSender → ℕ
 ring_capacity s = ring.producer_capacity s.producer
 
@@ -23,6 +24,7 @@ waiting r = ring.known_items r.consumer
 abbrev pub IsRing : HintSender → HintReceiver → Type 0
 IsRing s r = ring.IsPair s.producer r.consumer
 
+-- both are the end of one ring, before and after a call
 abbrev pub SameSender : HintSender → HintSender → Type 0
 SameSender s t = ring.SameProducer s.producer t.producer
 

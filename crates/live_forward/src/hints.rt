@@ -47,7 +47,8 @@ impl HintReceiver {
     /// The next target. None only where the ring gave nothing, so never for targets that `beside` counted.
     pub fn next_hint(&mut self) -> Option<Address>
         ensures ring { SameReceiver self.old self.new }
-        ensures some { IfSome result (λ at. (given self.new ≡ given self.old ++ at ∷ []) × IsPrefix (waiting self.old) (at ∷ waiting self.new)) }
+        ensures some { IfSome result (λ at. given self.new ≡ given self.old ++ at ∷ []) }
+        ensures order { IfSome result (λ at. IsPrefix (waiting self.old) (at ∷ waiting self.new)) }
         ensures none { IfNone result ((given self.new ≡ given self.old) × (waiting self.new ≡ [])) }
         ensures known { 0 < length (waiting self.old) → IsSome result }
     {

@@ -59,8 +59,11 @@ fn share(table: &ForwardTable, one: &mut SweepSeat, two: &mut SweepSeat)
 
 fn rounds<R: Threads + Sync>(rt: &R, sweepers: &mut [Sweeper], table: &ForwardTable)
     requires { All (λ s. IsReady table.now s.seat s.word s.wanted) sweepers.old }
-    ensures learns { (k : ℕ) (d : _) → k < length sweepers.old → Learns (slice_index_or sweepers.old k d).seat (slice_index_or sweepers.new k d).seat (slice_index_or sweepers.new k d).wanted (slice_index_or sweepers.new k d).learnt }
-    ensures wanted { (k : ℕ) (d : _) → k < length sweepers.old → (slice_index_or sweepers.new k d).wanted ≡ (slice_index_or sweepers.old k d).wanted }
+    ensures learns { (k : ℕ) (d : _) → k < length sweepers.old
+        → Learns (slice_index_or sweepers.old k d).seat (slice_index_or sweepers.new k d).seat
+        (slice_index_or sweepers.new k d).wanted (slice_index_or sweepers.new k d).learnt }
+    ensures wanted { (k : ℕ) (d : _) → k < length sweepers.old
+        → (slice_index_or sweepers.new k d).wanted ≡ (slice_index_or sweepers.old k d).wanted }
 {
     thread::for_each_mut(
         rt,
@@ -68,7 +71,9 @@ fn rounds<R: Threads + Sync>(rt: &R, sweepers: &mut [Sweeper], table: &ForwardTa
         2,
         &|_, sweeper: &mut Sweeper|
             requires { IsReady table.now sweeper.now.seat sweeper.now.word sweeper.now.wanted }
-            ensures { Learns sweeper.entry.now.seat sweeper.exit.now.seat sweeper.exit.now.wanted sweeper.exit.now.learnt × (sweeper.exit.now.wanted ≡ sweeper.entry.now.wanted) }
+            ensures { (sweeper.exit.now.wanted ≡ sweeper.entry.now.wanted)
+                × Learns sweeper.entry.now.seat sweeper.exit.now.seat sweeper.exit.now.wanted
+                sweeper.exit.now.learnt }
         {
             round(sweeper, table);
         },

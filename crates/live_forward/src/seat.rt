@@ -19,5 +19,7 @@ impl Model for SweepSeat {
 
     ghost view = { λ s. record { table = s.seat.table_id; view = s.seat.me.0 } };
 
-    ghost invariant = { λ s. (s.seat.me.1 ≡ []) × (0 < length s.seat.me.0.ranges) × (1 + sum s.seat.me.0.ranges ≡ s.seat.table_id.words) };
+    ghost invariant = { λ s. (s.seat.me.1 ≡ [])
+        × (0 < length s.seat.me.0.ranges)
+        × (1 + sum s.seat.me.0.ranges ≡ s.seat.table_id.words) };
 }

@@ -27,7 +27,9 @@ impl Model for ForwardTable {
 
     ghost view = { λ t. record { table = t.table.shared.table_id; ranges = t.table.shared.key.items } };
 
-    ghost invariant = { λ t. (t.table.shared.table_id.words ≡ 1 + sum t.table.shared.key.items) × (t.table.shared.table_id.slots ≡ 0) × (length t.table.shared.key.items < 2 ^ 63) };
+    ghost invariant = { λ t. (t.table.shared.table_id.words ≡ 1 + sum t.table.shared.key.items)
+        × (t.table.shared.table_id.slots ≡ 0)
+        × (length t.table.shared.key.items < 2 ^ 63) };
 }
 
 impl ForwardTable {
@@ -72,7 +74,8 @@ impl ForwardTable {
         ensures floor { seat.old.view.floor ≤ result }
         ensures has_range { result + seat.old.view.rights ≤ length seat.old.view.ranges }
         // Where no other seat has a right to claim, as where the seats claim and are split in turn.
-        ensures in_turn { seat.old.view.floor + seat.old.view.rights ≡ length seat.old.view.ranges → result ≡ seat.old.view.floor }
+        ensures in_turn { seat.old.view.floor + seat.old.view.rights ≡ length seat.old.view.ranges
+            → result ≡ seat.old.view.floor }
     {
         self.table.shared.fetch_add::<Claim>(&mut seat.seat, 0, 1)
     }

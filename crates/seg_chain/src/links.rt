@@ -18,7 +18,8 @@ pub fn own_numbers(alloc: Global, n: usize) -> Result<Vec<usize>, AllocError>
 /// Adds one node that is linked to nothing. Refused, both are as before.
 pub fn add_node(next: &mut Vec<usize>, prev: &mut Vec<usize>) -> Result<(), AllocError>
     requires { length prev.old.items ≡ length next.old.items }
-    ensures ok { OnOk result ((next.new.items ≡ next.old.items ++ 0 ∷ []) × (prev.new.items ≡ prev.old.items ++ 0 ∷ [])) }
+    ensures ok { OnOk result
+        ((next.new.items ≡ next.old.items ++ 0 ∷ []) × (prev.new.items ≡ prev.old.items ++ 0 ∷ [])) }
     ensures err { OnErr result ((next.new.items ≡ next.old.items) × (prev.new.items ≡ prev.old.items)) }
 {
     next.push(0)?;
@@ -35,8 +36,10 @@ pub fn detach(next: &mut Vec<usize>, prev: &mut Vec<usize>, node: usize)
     requires node_in { node < length next.old.items }
     requires next_in { slice_index next.old.items node < length next.old.items }
     requires prev_in { slice_index prev.old.items node < length next.old.items }
-    ensures next { next.new.items ≡ slice_set next.old.items (slice_index prev.old.items node) (slice_index next.old.items node) }
-    ensures prev { prev.new.items ≡ slice_set prev.old.items (slice_index next.old.items node) (slice_index prev.old.items node) }
+    ensures next { next.new.items
+        ≡ slice_set next.old.items (slice_index prev.old.items node) (slice_index next.old.items node) }
+    ensures prev { prev.new.items
+        ≡ slice_set prev.old.items (slice_index next.old.items node) (slice_index prev.old.items node) }
 {
     let before = prev[node];
     let after = next[node];
@@ -50,8 +53,10 @@ pub fn attach(next: &mut Vec<usize>, prev: &mut Vec<usize>, chain: usize, node: 
     requires chain_in { chain < length next.old.items }
     requires node_in { node < length next.old.items }
     requires prev_in { slice_index prev.old.items chain < length next.old.items }
-    ensures next { next.new.items ≡ slice_set (slice_set next.old.items (slice_index prev.old.items chain) node) node chain }
-    ensures prev { prev.new.items ≡ slice_set (slice_set prev.old.items node (slice_index prev.old.items chain)) chain node }
+    ensures next { next.new.items
+        ≡ slice_set (slice_set next.old.items (slice_index prev.old.items chain) node) node chain }
+    ensures prev { prev.new.items
+        ≡ slice_set (slice_set prev.old.items node (slice_index prev.old.items chain)) chain node }
 {
     let last = prev[chain];
     next[last] = node;
@@ -68,8 +73,14 @@ pub fn join_circles(next: &mut Vec<usize>, prev: &mut Vec<usize>, from: usize, t
     requires first_in { slice_index next.old.items from < length next.old.items }
     requires last_in { slice_index prev.old.items from < length next.old.items }
     requires end_in { slice_index prev.old.items to < length next.old.items }
-    ensures next { next.new.items ≡ slice_set (slice_set (slice_set next.old.items (slice_index prev.old.items to) (slice_index next.old.items from)) (slice_index prev.old.items from) to) from from }
-    ensures prev { prev.new.items ≡ slice_set (slice_set (slice_set prev.old.items (slice_index next.old.items from) (slice_index prev.old.items to)) to (slice_index prev.old.items from)) from from }
+    ensures next { let first = slice_index next.old.items from in
+        let last = slice_index prev.old.items from in
+        let end = slice_index prev.old.items to in
+        next.new.items ≡ slice_set (slice_set (slice_set next.old.items end first) last to) from from }
+    ensures prev { let first = slice_index next.old.items from in
+        let last = slice_index prev.old.items from in
+        let end = slice_index prev.old.items to in
+        prev.new.items ≡ slice_set (slice_set (slice_set prev.old.items first end) to last) from from }
 {
     let first = next[from];
     let last = prev[from];
