@@ -39,11 +39,7 @@ pub fn exchange<M: Ledger>(
 
 /// How many messages each sweeper is to get. It only says how much room to ask for: no contract rests on
 /// these numbers.
-fn inbox_sizes(
-    alloc: Global,
-    sent: &Vec<Outbox>,
-    sweepers: u32,
-) -> Result<Vec<usize>, AllocError>
+fn inbox_sizes(alloc: Global, sent: &Vec<Outbox>, sweepers: u32) -> Result<Vec<usize>, AllocError>
     requires { vec_len sent.now ≡ sweepers }
     ensures { IfOk result (λ sizes. vec_len sizes ≡ sweepers) }
 {

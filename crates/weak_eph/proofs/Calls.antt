@@ -23,7 +23,7 @@ module _ {B : Type 0} where
   module _ (es now : List (Entry B)) (key place : ℕ) (back : B) (made : now ≡ es ++ entry key back ∷ []) (is : place ≡ length es) where
     pub first_added : (chain chain' : ℕ → Option Chain) → IsIndexed es chain → chain key ≡ None → chain' key ≡ Some (record { first = place; last = place }) → ((q : ℕ) → q ≢ key → chain' q ≡ chain q) → IsIndexed now chain'
     first_added chain chain' h none new others = subst (λ l. IsIndexed l chain') (sym made)
-      (add_first es (entry key back) chain chain' h none refl (new ∙ ap (λ p. Some (record { first = p; last = p })) is) others)
+        (add_first es (entry key back) chain chain' h none refl (new ∙ ap (λ p. Some (record { first = p; last = p })) is) others)
 
     pub first_shown : waiting now ≡ waiting es ++ (key, back) ∷ []
     first_shown = ap waiting made ∙ waiting-push es (entry key back)
@@ -38,7 +38,7 @@ module _ {B : Type 0} where
 
       pub next_added : (chain chain' : ℕ → Option Chain) → IsIndexed es chain → chain key ≡ Some c → chain' key ≡ Some (record { first = c.first; last = place }) → ((q : ℕ) → q ≢ key → chain' q ≡ chain q) → IsIndexed (set now c.last linked) chain'
       next_added chain chain' h some new others = subst (λ l. IsIndexed (set l c.last linked) chain') (sym made)
-        (add_more es (entry key back) chain chain' c p linked h some refl (subst (λ l. slice_get l c.last ≡ Some p) made got) refl refl is (new ∙ ap (λ l. Some (record { first = c.first; last = l })) is) others)
+          (add_more es (entry key back) chain chain' c p linked h some refl (subst (λ l. slice_get l c.last ≡ Some p) made got) refl refl is (new ∙ ap (λ l. Some (record { first = c.first; last = l })) is) others)
 
       pub next_shown : waiting (set now c.last linked) ≡ waiting es ++ (key, back) ∷ []
       next_shown = waiting-set now c.last p linked got refl refl ∙ first_shown
@@ -74,9 +74,9 @@ module _ {B : Type 0} where
 
       pub one_taken : (chain' : ℕ → Option Chain) (y : Entry B) → y ≡ get_or es c.first y → c.first ≢ c.last → chain' key ≡ Some (record { first = y.next; last = c.last }) → ((q : ℕ) → q ≢ key → chain' q ≡ chain q) → IsIndexed (set es c.first taken) chain'
       one_taken chain' y again more new others =
-        let both : Some y ≡ Some x = sym (slice_get_read es (length es) c.first y refl first_within again) ∙ has in
-        let same : y ≡ x = search (rules, both) in
-        take_first es chain chain' key c x taken h some has refl refl others more (new ∙ ap (λ z. Some (record { first = z.next; last = c.last })) same)
+          let both : Some y ≡ Some x = sym (slice_get_read es (length es) c.first y refl first_within again) ∙ has in
+          let same : y ≡ x = search (rules, both) in
+          take_first es chain chain' key c x taken h some has refl refl others more (new ∙ ap (λ z. Some (record { first = z.next; last = c.last })) same)
 
   module _ (es : List (Entry B)) (chain : ℕ → Option Chain) (key : ℕ) (h : IsIndexed es chain) (none : chain key ≡ None) where
     nobody : (j : ℕ) → waits_at es key j ≡ false

@@ -26,5 +26,6 @@ module _ {S : Type 0} (m n : HashMap ℕ Chain S) (w : ℕ) (v : Option Chain) (
   -- what was there is put there again
   pub chain_again : v ≡ get eqb m w → (q : ℕ) → chain_at n q ≡ chain_at m q
   chain_again same q = elim (cases_eq w (q * 8 + 1)) [
-      inl a ↦ u (q * 8 + 1) ∙ ap (λ b. cond b v (chain_at m q)) (same_word w (q * 8 + 1) a) ∙ same ∙ ap (get eqb m) a
-    | inr b ↦ u (q * 8 + 1) ∙ ap (λ b. cond b v (chain_at m q)) (other_word w (q * 8 + 1) b) ]
+    | inl a ↦ u (q * 8 + 1) ∙ ap (λ b. cond b v (chain_at m q)) (same_word w (q * 8 + 1) a) ∙ same ∙ ap (get eqb m) a
+    | inr b ↦ u (q * 8 + 1) ∙ ap (λ b. cond b v (chain_at m q)) (other_word w (q * 8 + 1) b)
+  ]

@@ -68,7 +68,8 @@ mod tests {
             WeakState::Fixed(place(0, 8, 6)),
         ]
         .iter()
-        .enumerate() {
+        .enumerate()
+        {
             let slot = fields.slots.get(n);
             assert!(rt; slot.is_some_and(|s| s.state == *state));
         }

@@ -3,11 +3,10 @@
 ghost use Rattle.std.specs.Prelude.{◌≡◌, ℕ, ◌+◌, ◌*◌, eqb, List, [], ◌∷◌, ◌++◌, OnOk, OnErr};
 ghost use Rattle.std.specs.Map.{lookup, remove_entry};
 
+use gc_words::{Address, Value, encode};
 use std::alloc::{AllocError, Global};
 use std::collections::HashMap;
 use std::marker::Model;
-
-use gc_words::{Address, Value, encode};
 
 /// One watch, and the next one of the same key.
 #[derive(Clone, Copy)]
@@ -80,7 +79,10 @@ impl<B: Copy> Watches<B> {
             }
             None => {
                 self.entries.push(entry)?;
-                let chain = Chain { first: place, last: place };
+                let chain = Chain {
+                    first: place,
+                    last: place,
+                };
                 match self.index.insert(word(key), chain) {
                     Ok(_) => Ok(()),
                     Err(_) => {

@@ -25,13 +25,18 @@ loop-n-preserved g c =
     let k = c.key.ensures in
     let found = c.kept_at.ensures ∙ ap (λ q. lookup (eqb q) (g.F.WeakFields.kept c.loop-n.fields)) (sym k.2) ∙ ap (lookup (eqb k.0.key)) c.loop-n.invariant.1 in
     elim c.match-kept_at.branch [
-        in-Some w ↦ (settles_one _ _ _ _ _ _ _ c.loop-n.invariant.0 k.1 (ap fate (sym w.in-Some.is ∙ found)) (ap g.F.WeakFields.slots w.fields-is ∙ w.fix.ensures.slots)
-          , ap g.F.WeakFields.kept w.fields-is ∙ w.fix.ensures.kept ∙ c.loop-n.invariant.1)
-      | in-None w ↦ (settles_one _ _ _ _ _ _ _ c.loop-n.invariant.0 k.1 (ap fate (sym w.in-None.is ∙ found)) (ap g.F.WeakFields.slots w.fields-is ∙ w.break_slot.ensures.slots)
-          , ap g.F.WeakFields.kept w.fields-is ∙ w.break_slot.ensures.kept ∙ c.loop-n.invariant.1) ]
+      | in-Some w ↦ (
+        settles_one _ _ _ _ _ _ _ c.loop-n.invariant.0 k.1 (ap fate (sym w.in-Some.is ∙ found)) (ap g.F.WeakFields.slots w.fields-is ∙ w.fix.ensures.slots),
+        ap g.F.WeakFields.kept w.fields-is ∙ w.fix.ensures.kept ∙ c.loop-n.invariant.1,
+      )
+      | in-None w ↦ (
+        settles_one _ _ _ _ _ _ _ c.loop-n.invariant.0 k.1 (ap fate (sym w.in-None.is ∙ found)) (ap g.F.WeakFields.slots w.fields-is ∙ w.break_slot.ensures.slots),
+        ap g.F.WeakFields.kept w.fields-is ∙ w.break_slot.ensures.kept ∙ c.loop-n.invariant.1,
+      )
+    ]
 
 pub returns : goal.returns
 returns g c = record {
   slots = c.loop-n.invariant.0 ∙ halfway_all _ _ _ (omega (arith, c.loop-n-test.false, c.pending-n-end.ensures));
-  kept = c.loop-n.invariant.1
+  kept = c.loop-n.invariant.1;
 }

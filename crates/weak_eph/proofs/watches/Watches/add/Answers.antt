@@ -27,8 +27,8 @@ invariant_of-self-in-Some g c =
     let u = ((c.get_mut.follows.holds _).3 (some_is _ _ v)).0 in
     let n = c.get_mut.follows.lender (record { first = c.in-Some.chain.now.first; last = c.len-place.result }) in
     next_added _ _ c.args.key _ c.args.back c.in_ok-push-in-Some.ensures.items (omega (arith, c.len-place.ensures, c.self.inside.entries.ok.0)) _ _ l c.index_mut.ensures.value
-      (chain_at c.self.inside.index) (chain_at n) c.self.invariant some
-      (chain_put c.self.inside.index n _ _ u c.args.key c.word.ensures) (chain_others c.self.inside.index n _ _ u c.args.key c.word.ensures)
+    (chain_at c.self.inside.index) (chain_at n) c.self.invariant some
+    (chain_put c.self.inside.index n _ _ u c.args.key c.word.ensures) (chain_others c.self.inside.index n _ _ u c.args.key c.word.ensures)
 
 pub invariant_of-self-in-Ok : goal.invariant_of-self-in-Ok
 invariant_of-self-in-Ok g c =
@@ -37,9 +37,9 @@ invariant_of-self-in-Ok g c =
     let n = c.insert.new.self in
     let none = sym (c.in-None.ensures.value ∙ ap (get eqb c.self.inside.index) c.word.ensures) in
     first_added _ _ c.args.key _ c.args.back c.in_ok-push-in-None.ensures.items (omega (arith, c.len-place.ensures, c.self.inside.entries.ok.0))
-      (chain_at c.self.inside.index) (chain_at n) c.self.invariant none
-      (chain_put m n _ _ u c.args.key c.word-in-None.ensures)
-      (λ q ne. chain_others m n _ _ u c.args.key c.word-in-None.ensures q ne ∙ ap (λ i. chain_at i q) c.get_mut.follows.holds-at-none)
+    (chain_at c.self.inside.index) (chain_at n) c.self.invariant none
+    (chain_put m n _ _ u c.args.key c.word-in-None.ensures)
+    (λ q ne. chain_others m n _ _ u c.args.key c.word-in-None.ensures q ne ∙ ap (λ i. chain_at i q) c.get_mut.follows.holds-at-none)
 
 pub returns-in_ok-push-in-Some-clause-ok : goal.returns-in_ok-push-in-Some-clause-ok
 returns-in_ok-push-in-Some-clause-ok g c =

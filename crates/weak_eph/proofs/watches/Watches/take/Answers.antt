@@ -22,8 +22,8 @@ invariant_of-self g c =
     let same = chain_again c.self.inside.index m _ _ ((c.get_mut.follows.holds _).3 (some_is _ _ v)).0 v in
     let u = c.remove.ensures.updates.0 in
     only_taken _ (chain_at c.self.inside.index) c.args.key _ c.self.invariant some _ c.index_mut.ensures.value (chain_at n) (omega arith)
-      (chain_put m n _ _ u c.args.key c.word-then-first-chain.ensures)
-      (λ q ne. chain_others m n _ _ u c.args.key c.word-then-first-chain.ensures q ne ∙ same q)
+    (chain_put m n _ _ u c.args.key c.word-then-first-chain.ensures)
+    (λ q ne. chain_others m n _ _ u c.args.key c.word-then-first-chain.ensures q ne ∙ same q)
 
 pub invariant_of-self-else-first-chain : goal.invariant_of-self-else-first-chain
 invariant_of-self-else-first-chain g c =
@@ -32,8 +32,8 @@ invariant_of-self-else-first-chain g c =
     let n = c.get_mut.follows.lender (record { first = c.index-in-Some.result.now.next; last = c.in-Some.chain.now.last }) in
     let u = ((c.get_mut.follows.holds _).3 (some_is _ _ v)).0 in
     one_taken _ (chain_at c.self.inside.index) c.args.key _ c.self.invariant some _ c.index_mut.ensures.value (chain_at n) _ c.index-in-Some.ensures c.if-first-chain.false
-      (chain_put c.self.inside.index n _ _ u c.args.key c.word.ensures)
-      (chain_others c.self.inside.index n _ _ u c.args.key c.word.ensures)
+    (chain_put c.self.inside.index n _ _ u c.args.key c.word.ensures)
+    (chain_others c.self.inside.index n _ _ u c.args.key c.word.ensures)
 
 pub returns-then-first-chain-clause-first : goal.returns-then-first-chain-clause-first
 returns-then-first-chain-clause-first g c =
