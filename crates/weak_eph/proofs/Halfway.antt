@@ -1,12 +1,12 @@
 -- Settling, slot by slot.
-use Rattle.std.proofs.Common.{◌≡◌, ℕ, zero, suc, ◌+◌, ◌<◌, ◌≤◌, eqb, List, [], ◌∷◌, length, set, get_or, map, refl, sym, ◌∙◌, ap, subst, arith, rules}
-use Rattle.std.specs.Prelude.{Option, Some, None, slice_get, All}
+use Rattle.std.proofs.Common.{◌≡◌, ℕ, zero, suc, ◌+◌, ◌<◌, ◌≤◌, eqb, List, [], ◌∷◌, length, set, get_or, map, refl, sym, ◌∙◌, ap, arith, rules}
+use Rattle.std.specs.Prelude.{Some, slice_get, All}
 use Rattle.std.specs.Map.{lookup}
 use Rattle.std.proofs.lemmas.Option.{get_or_from_slice_get, slice_get_within}
 use Rattle.weak_eph.specs.declared.fields.WeakSlot.{WeakSlot}
 use Rattle.weak_eph.specs.declared.fields.WeakState.{WeakState}
-use Rattle.weak_eph.specs.declared.fields.WeakState.TheVariants.{Waiting, Fixed, Broken}
-use Rattle.weak_eph.specs.Slots.{IsWaiting, HasKey, HasState, in_state, with_state, fate, settled}
+use Rattle.weak_eph.specs.declared.fields.WeakState.TheVariants.{Waiting}
+use Rattle.weak_eph.specs.Slots.{IsWaiting, in_state, with_state, fate, settled}
 
 -- the first n slots settled, and the others as they were
 abbrev pub halfway : List (ℕ × ℕ) → List WeakSlot → ℕ → List WeakSlot

@@ -1,9 +1,9 @@
 -- The table of entries: what a write and a push make of what stands where, and of the pairs that wait.
-use Rattle.std.proofs.Common.{◌≡◌, ◌≢◌, ℕ, zero, suc, ◌<◌, Bool, true, false, cond, ◌&&◌, eqb, List, [], ◌∷◌, ◌++◌, length, set, refl, sym, ◌∙◌, ap, arith, rules}
+use Rattle.std.proofs.Common.{◌≡◌, ◌≢◌, ℕ, zero, suc, ◌<◌, true, false, ◌&&◌, eqb, List, [], ◌∷◌, ◌++◌, length, set, refl, sym, ◌∙◌, ap, arith, rules}
 use Rattle.std.specs.Prelude.{Option, Some, None, slice_get, is_some}
 use Rattle.std.specs.Map.{lookup, remove_entry}
 use Rattle.weak_eph.specs.declared.watches.Entry.{Entry}
-use Rattle.weak_eph.specs.Watching.{before, waiting, is_for, waits_at}
+use Rattle.weak_eph.specs.Watching.{before, waiting, waits_at}
 
 module _ {X : Type 0} where
   pub slice_get-set_same : (xs : List X) (i : ℕ) (x y : X) → slice_get xs i ≡ Some x → slice_get (set xs i y) i ≡ Some y

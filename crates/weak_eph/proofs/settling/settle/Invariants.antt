@@ -1,4 +1,4 @@
-use Rattle.std.proofs.Common.{◌≡◌, ◌≤◌, length}
+use Rattle.std.proofs.Common.{◌≡◌}
 use Rattle.weak_eph.proofs.Halfway.{halfway}
 use Rattle.weak_eph.proofs.settling.settle.Given as goal
 

@@ -1,5 +1,4 @@
-use Rattle.std.proofs.Common.{◌≡◌, ℕ, ◌*◌, ◌+◌, eqb, List, [], ◌∷◌, ◌++◌, arith, sym, ◌∙◌, ap, refl}
-use Rattle.std.specs.Prelude.{Some, None}
+use Rattle.std.proofs.Common.{eqb, [], ◌∷◌, ◌++◌, arith, sym, ◌∙◌, ap}
 use Rattle.std.specs.HashMap.{get}
 use Rattle.weak_eph.specs.Watching.{chain_at}
 use Rattle.weak_eph.proofs.Indexes.{chain_put, chain_others, chain_again, some_is}

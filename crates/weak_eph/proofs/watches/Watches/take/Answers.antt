@@ -1,5 +1,4 @@
-use Rattle.std.proofs.Common.{◌≡◌, ℕ, ◌*◌, ◌+◌, eqb, arith, sym, ◌∙◌, ap, refl}
-use Rattle.std.specs.Prelude.{Some, None}
+use Rattle.std.proofs.Common.{eqb, arith, sym, ◌∙◌, ap}
 use Rattle.std.specs.HashMap.{get}
 use Rattle.std.specs.Map.{lookup, remove_entry}
 use Rattle.weak_eph.specs.Watching.{chain_at}
