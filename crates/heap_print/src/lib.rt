@@ -1,0 +1,7 @@
+//! The printed graph of a value.
+#![tactic(auto)]
+
+mod numbers;
+mod text;
+
+pub use numbers::Numbers;
