@@ -1,2 +1,5 @@
 pub mod Numbering
 pub mod Renamed
+pub mod Reading
+pub mod Contents
+pub mod Lines

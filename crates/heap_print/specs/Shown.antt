@@ -1,10 +1,17 @@
 -- How a print over the heap names objects: by the words that refer to them, before these are replaced by births.
-use Rattle.std.specs.Prelude.{ℕ, ◌+◌, ◌*◌, List, [], ◌∷◌}
+use Rattle.std.specs.Prelude.{◌≡◌, ℕ, ◌+◌, ◌*◌, ◌/◌, pos, codes, decimal, List, [], ◌∷◌, ◌++◌, map, flat_map, fold, slice_index, Option, Some, None, IsTrue, if◌then◌else◌}
 use Rattle.trace_types.specs.Values as values
 use Rattle.gc_words.specs.declared.value.Value.{Value}
 use Rattle.gc_words.specs.declared.value.Value.TheVariants.{Fixnum, Nil, True, False, Bwp, Object}
+use Rattle.gc_words.specs.Word.{value_of}
+use Rattle.gc_words.specs.Layout.{thread_of}
+use Rattle.trace_types.specs.Words.{kind_word}
+use Rattle.trace_types.specs.Values.{objects_in, has_bytes, is_guardian}
+use Rattle.trace_types.specs.Printing.{with_number, value_text, byte_text, generation_word}
+use Rattle.segment.specs.Segments.{Start}
+use Rattle.heap_store.specs.Starts.{Starts, birth_of, is_object, bytes_of}
 
--- the word that refers to the object at an address
+-- the word that refers to what is at an address
 abbrev pub reference : ℕ → ℕ
 reference a = a * 8 + 1
 
@@ -16,3 +23,64 @@ by_word True = values.true_value
 by_word False = values.false_value
 by_word Bwp = values.bwp
 by_word (Object a) = values.object (reference a)
+
+abbrev pub by_word_option : Option Value → values.Value
+by_word_option None = values.nil
+by_word_option (Some v) = by_word v
+
+-- the value of a word
+abbrev pub word_value : ℕ → values.Value
+word_value w = by_word_option (value_of w)
+
+-- the birth of what a word refers to
+abbrev pub birth_at : Starts → ℕ → ℕ
+birth_at f w = birth_of (f (w / 8))
+
+-- a value with its object renamed
+abbrev pub renamed : (ℕ → ℕ) → values.Value → values.Value
+renamed name (values.object x) = values.object (name x)
+renamed name v = v
+
+-- the word refers to an object of the heap
+pub record IsReference (f : Starts) (w : ℕ) : Type 0 where
+  pub form : w ≡ reference (w / 8)
+  pub there : IsTrue (is_object (f (w / 8)))
+
+-- ---- what is printed of an object, as words
+
+-- the first word of what starts at a place
+abbrev pub first_of : Option Start → ℕ
+first_of None = 0
+first_of (Some x) = slice_index x.words 0
+
+-- Words that are values: of a guardian those of its queue's cells. A byte object has none.
+abbrev pub shown_words : Starts → Start → List ℕ → List ℕ
+shown_words f x cells =
+    if has_bytes x.kind then []
+    else if is_guardian x.kind then map (λ c. first_of (f c)) cells
+    else x.words
+
+-- the numbers, and one more for each object among the words that has none
+abbrev pub with_words : List ℕ → List ℕ → List ℕ
+with_words numbers ws = fold with_number numbers (objects_in (map word_value ws))
+
+-- ---- what is printed of an object, as text
+
+-- a word, after a space
+abbrev pub word_text : List ℕ → ℕ → List ℕ
+word_text numbers w = codes " " ++ value_text numbers (word_value w)
+
+-- a byte, after a space
+abbrev pub spaced_byte : ℕ → List ℕ
+spaced_byte b = codes " " ++ byte_text (values.fixnum (pos b))
+
+abbrev pub shown_text : Starts → List ℕ → Start → List ℕ → List ℕ
+shown_text f numbers x cells =
+    if has_bytes x.kind then flat_map spaced_byte (bytes_of x.words x.length)
+    else flat_map (word_text numbers) (shown_words f x cells)
+
+-- the line of what starts at the place that w refers to
+abbrev pub line_text : Starts → List ℕ → ℕ → Start → List ℕ → List ℕ
+line_text f numbers w x cells =
+    value_text numbers (values.object w) ++ codes " " ++ kind_word x.kind ++ codes " g" ++ generation_word x.generation
+    ++ codes " t" ++ decimal (thread_of (w / 8)) ++ shown_text f numbers x cells ++ 10 ∷ []
