@@ -3,3 +3,5 @@ pub mod Renamed
 pub mod Reading
 pub mod Contents
 pub mod Lines
+pub mod Sums
+pub mod Counted

@@ -29,7 +29,7 @@ steady graph v n (suc m) few =
 
 -- ---- each object once
 
-flipped : (xs : List ℕ) (q : ℕ) → has xs q ≡ is_member eqb xs q
+pub flipped : (xs : List ℕ) (q : ℕ) → has xs q ≡ is_member eqb xs q
 flipped [] q = refl
 flipped (x ∷ xs) q = rw (nat_eq_equiv.symm x q, flipped xs q) refl
 

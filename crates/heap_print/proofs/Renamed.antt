@@ -11,7 +11,7 @@ use Rattle.trace_types.specs.Printing.{with_number, number_of}
 abbrev pub AreApart : (ℕ → Type 0) → (ℕ → ℕ) → Type 0
 AreApart P birth = (x y : ℕ) → P x → P y → birth x ≡ birth y → x ≡ y
 
-same_test : (P : ℕ → Type 0) (birth : ℕ → ℕ) → AreApart P birth → (x y : ℕ) → P x → P y → eqb (birth x) (birth y) ≡ eqb x y
+pub same_test : (P : ℕ → Type 0) (birth : ℕ → ℕ) → AreApart P birth → (x y : ℕ) → P x → P y → eqb (birth x) (birth y) ≡ eqb x y
 same_test P birth apart x y px py = elim (eqb x y) as (λ b. eqb x y ≡ b → eqb (birth x) (birth y) ≡ b) [
       | true ↦ λ e. eq-eqb (birth x) (birth y) (ap birth (eqb-true x y e))
       | false ↦ λ e. elim (eqb (birth x) (birth y)) as (λ b. eqb (birth x) (birth y) ≡ b → b ≡ false) [

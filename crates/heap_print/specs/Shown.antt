@@ -1,5 +1,5 @@
 -- How a print over the heap names objects: by the words that refer to them, before these are replaced by births.
-use Rattle.std.specs.Prelude.{◌≡◌, ℕ, ◌+◌, ◌*◌, ◌/◌, pos, codes, decimal, List, [], ◌∷◌, ◌++◌, map, flat_map, fold, slice_index, Option, Some, None, IsTrue, if◌then◌else◌}
+use Rattle.std.specs.Prelude.{◌≡◌, eqb, Bool, false, not, ◌&&◌, ◌==◌, ℕ, ◌+◌, ◌*◌, ◌/◌, pos, codes, decimal, List, [], ◌∷◌, ◌++◌, map, flat_map, fold, slice_index, Option, Some, None, IsTrue, if◌then◌else◌}
 use Rattle.trace_types.specs.Values as values
 use Rattle.gc_words.specs.declared.value.Value.{Value}
 use Rattle.gc_words.specs.declared.value.Value.TheVariants.{Fixnum, Nil, True, False, Bwp, Object}
@@ -8,8 +8,11 @@ use Rattle.gc_words.specs.Layout.{thread_of}
 use Rattle.trace_types.specs.Words.{kind_word}
 use Rattle.trace_types.specs.Values.{objects_in, has_bytes, is_guardian}
 use Rattle.trace_types.specs.Printing.{with_number, value_text, byte_text, generation_word}
+use Rattle.std.specs.List.{IsDistinct}
+use Rattle.trace_types.specs.Rules.{has}
+use Rattle.segment.specs.Layout.{space_of, skip_of, words_after}
 use Rattle.segment.specs.Segments.{Start}
-use Rattle.heap_store.specs.Starts.{Starts, birth_of, is_object, bytes_of}
+use Rattle.heap_store.specs.Starts.{Starts, birth_of, is_object, is_cell, bytes_of}
 
 -- the word that refers to what is at an address
 abbrev pub reference : ℕ → ℕ
@@ -84,3 +87,20 @@ abbrev pub line_text : Starts → List ℕ → ℕ → Start → List ℕ → Li
 line_text f numbers w x cells =
     value_text numbers (values.object w) ++ codes " " ++ kind_word x.kind ++ codes " g" ++ generation_word x.generation
     ++ codes " t" ++ decimal (thread_of (w / 8)) ++ shown_text f numbers x cells ++ 10 ∷ []
+
+-- ---- what is counted
+
+-- whether an object of this generation starts there
+abbrev pub is_of_generation : ℕ → Option Start → Bool
+is_of_generation g None = false
+is_of_generation g (Some x) = not (is_cell x.kind) && (x.generation == g)
+
+-- the words of what starts there, header and all
+abbrev pub words_in : Option Start → ℕ
+words_in None = 0
+words_in (Some x) = (skip_of (space_of x.kind) + words_after x.kind x.length + 1) / 2 * 2
+
+-- the places are those of all objects of this generation, each once
+pub record AreOfGeneration (f : Starts) (g : ℕ) (places : List ℕ) : Type 0 where
+  pub once : IsDistinct eqb places
+  pub these : (a : ℕ) → has places a ≡ is_of_generation g (f a)
