@@ -4,3 +4,4 @@ pub mod Turning
 pub mod Performing
 pub mod Closing
 pub mod Heading
+pub mod Silent
