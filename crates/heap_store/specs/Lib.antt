@@ -1,0 +1,6 @@
+pub mod Starts
+pub mod Queues
+pub mod Graphs
+pub mod Roots
+pub mod HeapView
+pub mod Stands
