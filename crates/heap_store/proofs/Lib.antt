@@ -1,3 +1,4 @@
 pub mod Kept
 pub mod Changed
 pub mod Standing
+pub mod Bytes

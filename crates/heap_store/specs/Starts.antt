@@ -1,6 +1,7 @@
 -- The starts of a heap, and how they read: as objects of a graph, with each place replaced by the birth of what is there.
-use Rattle.std.specs.Prelude.{◌≡◌, ◌≢◌, ℕ, ◌*◌, ◌/◌, ◌%◌, ◌^◌, ◌≤◌, pos, Bool, true, false, not, ◌&&◌, List, map, length, slice_index, [], IsTrue, IsSome, Option, Some, None, if◌then◌else◌}
+use Rattle.std.specs.Prelude.{◌≡◌, ◌≢◌, ℕ, ◌/◌, ◌%◌, ◌≤◌, pos, Bool, true, false, not, ◌&&◌, List, map, length, slice_index, [], IsTrue, IsSome, Option, Some, None, if◌then◌else◌}
 use Rattle.std.specs.List.{AllByRecursion, range_with_len}
+use Rattle.std.specs.Int.{w64, to_le_bytes}
 use Rattle.std.specs.Option.{option_map}
 use Rattle.gc_words.specs.declared.value.Value.{Value}
 use Rattle.gc_words.specs.declared.value.Value.TheVariants as word
@@ -70,9 +71,13 @@ IsWordThere f w = IsThereOption f (value_of w)
 
 -- ---- bytes
 
--- byte i of bytes that are packed eight to a word, the first in the lowest place
+-- the eight bytes of a word, the first in the lowest place
+unfoldable pub word_bytes : ℕ → List ℕ
+word_bytes w = to_le_bytes w64 w
+
+-- byte i of bytes that are packed eight to a word
 abbrev pub byte_at : List ℕ → ℕ → ℕ
-byte_at words i = slice_index words (i / 8) / 256 ^ (i % 8) % 256
+byte_at words i = slice_index (word_bytes (slice_index words (i / 8))) (i % 8)
 
 -- the first n of them
 abbrev pub bytes_of : List ℕ → ℕ → List ℕ
