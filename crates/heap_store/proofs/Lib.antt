@@ -2,3 +2,5 @@ pub mod Kept
 pub mod Changed
 pub mod Standing
 pub mod Bytes
+pub mod Territories
+pub mod Making

@@ -5,19 +5,19 @@ use Rattle.trace_types.specs.States.{State}
 use Rattle.trace_types.specs.Rules.{has}
 use Rattle.trace_types.specs.WellFormed.{greatest_line, registration_lines, IsWellFormedTo}
 use Rattle.segment.specs.Segments.{Start}
-use Rattle.territory.specs.Territories.{SegmentView, TerritoryView}
+use Rattle.territory.specs.Territories.{TerritoryView}
 use Rattle.heap_store.specs.Starts.{Starts, is_cell, IsClosed}
 use Rattle.heap_store.specs.Queues.{nil_word, IsQueued}
 use Rattle.heap_store.specs.Graphs.{GraphStands}
 use Rattle.heap_store.specs.Roots.{RegistersStand, LocksStand, NotesStand, RegistryStands}
 use Rattle.heap_store.specs.HeapView.{HeapView, starts_of}
+use Rattle.heap_store.specs.Changes.{HasNoFrom}
 
 -- the territories of threads 0 to 63, in this order, and no segment is set aside for a collection
 pub record AreSettled (territories : List TerritoryView) : Type 0 where
   pub count : length territories ≡ 64
   pub threads : (i : ℕ) (t : TerritoryView) → slice_get territories i ≡ Some t → t.thread ≡ i
-  pub no_from : (i n : ℕ) (t : TerritoryView) (p : SegmentView) → slice_get territories i ≡ Some t
-      → slice_get t.segments n ≡ Some (Some p) → p.is_from ≡ false
+  pub no_from : (i : ℕ) (t : TerritoryView) → slice_get territories i ≡ Some t → HasNoFrom t
 
 -- a guardian of this generation
 pub record HasGuardian (f : Starts) (generation : ℕ) : Type 0 where
