@@ -4,3 +4,4 @@ pub mod Standing
 pub mod Bytes
 pub mod Territories
 pub mod Making
+pub mod Setting
