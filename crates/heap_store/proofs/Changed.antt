@@ -1,6 +1,6 @@
 -- What stands after one start, no queue cell, was added or changed.
 use Rattle.std.proofs.Common.{◌≡◌, ◌≢◌, ℕ, zero, suc, ◌+◌, ◌<◌, ◌≤◌, ◌==◌, Bool, true, false, cond, List, [], ◌∷◌, Contains, IsTrue, IsSome, Option, Some, None, nat_cmp, refl, sym, ◌∙◌, ap, subst, arith, inl, inr, ◌⊎◌}
-use Rattle.std.specs.FinMap.{FinMap, get, find, put}
+use Rattle.std.specs.FinMap.{find, put}
 use Rattle.std.proofs.lemmas.Bool.{cases_eq, cases_Bool, false≢true, eq-eqb, ne_eqb}
 use Rattle.std.proofs.lemmas.Option.{same_Some}
 use Rattle.trace_types.specs.declared.kind.Kind.{Kind}
@@ -124,7 +124,7 @@ module _ (f g : Starts) (a : ℕ) (x : Start) (changed : IsChanged f g a x) wher
       empty h = absurd (omega (arith, h.1))
 
   -- a new object isn't locked
-  pub changed_locks : (counts : FinMap nat_cmp ℕ) (locks : List (ℕ × ℕ)) → (f a ≡ None → find nat_cmp x.birth locks ≡ None) → LocksStand f counts locks → LocksStand g counts locks
+  pub changed_locks : (counts locks : List (ℕ × ℕ)) → (f a ≡ None → find nat_cmp x.birth locks ≡ None) → LocksStand f counts locks → LocksStand g counts locks
   changed_locks counts locks unlocked stands = record {
     there = λ b h. place_kept f g keeps b (stands.there b h);
     same = λ b is. elim (cases_Bool (is_object (f b))) [
@@ -133,10 +133,10 @@ module _ (f g : Starts) (a : ℕ) (x : Start) (changed : IsChanged f g a x) wher
     ];
   }
     where
-      uncounted : (b : ℕ) → is_object (f b) ≡ false → get counts b ≡ None
-      uncounted b none = by_count (get counts b) refl
+      uncounted : (b : ℕ) → is_object (f b) ≡ false → find nat_cmp b counts ≡ None
+      uncounted b none = by_count (find nat_cmp b counts) refl
         where
-          by_count : (o : Option ℕ) → get counts b ≡ o → get counts b ≡ None
+          by_count : (o : Option ℕ) → find nat_cmp b counts ≡ o → find nat_cmp b counts ≡ None
           by_count None e = e
           by_count (Some n) e = absurd (false≢true (sym none ∙ stands.there b (subst IsSome (sym e) refl)))
 
@@ -144,7 +144,7 @@ module _ (f g : Starts) (a : ℕ) (x : Start) (changed : IsChanged f g a x) wher
       nothing b None e is none = refl
       nothing b (Some y) e is none = absurd (false≢true (sym none ∙ sym (ap is_object e) ∙ sym (same_object (g b) (f b) (keeps b (is_some (f b) y e))) ∙ is))
 
-      new : (b : ℕ) → IsTrue (is_object (g b)) → is_object (f b) ≡ false → find nat_cmp (birth_of (g b)) locks ≡ get counts b
+      new : (b : ℕ) → IsTrue (is_object (g b)) → is_object (f b) ≡ false → find nat_cmp (birth_of (g b)) locks ≡ find nat_cmp b counts
       new b is none =
           let nothing_there : f b ≡ None = nothing b (f b) refl is none in
           elim (cases_eq b a) [

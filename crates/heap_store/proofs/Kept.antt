@@ -77,7 +77,7 @@ pub map_same : {X Y : Type 0} (P : X → Type 0) (u v : X → Y) → ((x : X) �
 map_same P u v h [] all = refl
 map_same P u v h (x ∷ xs) all = λ i. h x all.0 i ∷ map_same P u v h xs all.1 i
 
-at_index : {X : Type 0} (P : X → Type 0) (d : X) → P d → (xs : List X) → AllByRecursion P xs → (i : ℕ) → P (get_or xs i d)
+pub at_index : {X : Type 0} (P : X → Type 0) (d : X) → P d → (xs : List X) → AllByRecursion P xs → (i : ℕ) → P (get_or xs i d)
 at_index P d past [] all i = past
 at_index P d past (x ∷ xs) all zero = all.0
 at_index P d past (x ∷ xs) all (suc i) = at_index P d past xs all.1 i

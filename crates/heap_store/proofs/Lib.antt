@@ -5,3 +5,4 @@ pub mod Bytes
 pub mod Territories
 pub mod Making
 pub mod Setting
+pub mod Opening

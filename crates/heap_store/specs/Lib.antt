@@ -5,3 +5,6 @@ pub mod Roots
 pub mod HeapView
 pub mod Changes
 pub mod Stands
+pub mod Calls
+pub mod Registries
+pub mod Opening

@@ -1,7 +1,7 @@
 -- What a heap keeps beside its objects: registers, locks, notes and registrations, and how they read.
 use Rattle.std.specs.Prelude.{◌≡◌, ℕ, ◌+◌, ◌<◌, min, nat_lt, List, [], ◌∷◌, ◌++◌, map, length, flat_map, slice_index_or, IsTrue, IsSome, Option, Some, None, if◌then◌else◌}
 use Rattle.std.specs.List.{AllByRecursion}
-use Rattle.std.specs.FinMap.{FinMap, get, find}
+use Rattle.std.specs.FinMap.{find}
 use Rattle.std.specs.Ordering.{nat_cmp}
 use Rattle.gc_words.specs.declared.value.Value.{Value}
 use Rattle.gc_words.specs.declared.value.Value.TheVariants as word
@@ -22,9 +22,9 @@ pub record RegistersStand (f : Starts) (registers : List Value) (held : List val
 -- ---- locks
 
 -- an object is locked as often as its place is, and nothing else is locked
-pub record LocksStand (f : Starts) (counts : FinMap nat_cmp ℕ) (locks : List (ℕ × ℕ)) : Type 0 where
-  pub there : (a : ℕ) → IsSome (get counts a) → IsTrue (is_object (f a))
-  pub same : (a : ℕ) → IsTrue (is_object (f a)) → find nat_cmp (birth_of (f a)) locks ≡ get counts a
+pub record LocksStand (f : Starts) (counts locks : List (ℕ × ℕ)) : Type 0 where
+  pub there : (a : ℕ) → IsSome (find nat_cmp a counts) → IsTrue (is_object (f a))
+  pub same : (a : ℕ) → IsTrue (is_object (f a)) → find nat_cmp (birth_of (f a)) locks ≡ find nat_cmp a counts
 
 -- ---- notes
 
