@@ -6,3 +6,5 @@ pub mod Territories
 pub mod Making
 pub mod Setting
 pub mod Opening
+pub mod Operands
+pub mod Commands

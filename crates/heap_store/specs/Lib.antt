@@ -8,3 +8,4 @@ pub mod Stands
 pub mod Calls
 pub mod Registries
 pub mod Opening
+pub mod Parts

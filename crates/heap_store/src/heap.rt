@@ -1,9 +1,9 @@
 //! The heap: its parts, and the calls that look at no object.
 
-ghost use Rattle.std.specs.Prelude.{◌≡◌, ◌≢◌, ◌↔◌, ◌<◌, ◌≤◌, ℕ, true, false, replicate, length, Ok, Err, IfOk, OnOk};
+ghost use Rattle.std.specs.Prelude.{◌≡◌, ◌≢◌, ◌↔◌, ◌<◌, ◌≤◌, ℕ, true, false, replicate, length, Ok, Err, IfOk, OnOk, OnErr, IsTrue};
 ghost use Rattle.trace_types.specs.States.{State, opening};
 ghost use Rattle.trace_types.specs.Steps.{step};
-ghost use Rattle.trace_types.specs.WellFormed.{operand_fits};
+ghost use Rattle.trace_types.specs.WellFormed.{greatest_line, operand_fits};
 ghost use Rattle.gc_words.specs.declared.value.Value.{Value};
 ghost use Rattle.heap_store.specs.Starts.{Keeps};
 ghost use Rattle.heap_store.specs.HeapView.{starts_of};
@@ -138,5 +138,88 @@ impl Heap {
         ensures { self.new ≡ record self.old { failed = true } }
     {
         self.failed = true;
+    }
+
+    /// Makes this thread the creator of what is made from now on. Takes no memory, and has no fault.
+    pub fn select_thread(&mut self, thread: u8) -> Result<(), HeapError>
+        requires { thread ≤ 63 }
+        ensures step { (s : State) (line : ℕ) → Stands self.old s → Obeys s (step s line (Command.Thread thread)) result self.new }
+        ensures failed { (result ≡ Err HeapError.Failed) ↔ (self.old.failed ≡ true) }
+        ensures no_memory { result ≢ Err HeapError.NoMemory }
+        ensures left { IsLeft result self.old self.new }
+        ensures objects { self.new.territories ≡ self.old.territories }
+        ensures last { self.new.last ≡ self.old.last }
+    {
+        if self.failed {
+            return Err(HeapError::Failed);
+        }
+        self.thread = thread;
+        Ok(())
+    }
+
+    /// Puts a value into a register. Takes no memory, and has no fault.
+    pub fn mov(&mut self, d: Register, value: Operand) -> Result<(), HeapError>
+        requires { IsTrue (operand_fits value) }
+        ensures step { (s : State) (line : ℕ) → Stands self.old s → Obeys s (step s line (Command.Mov d value)) result self.new }
+        ensures failed { (result ≡ Err HeapError.Failed) ↔ (self.old.failed ≡ true) }
+        ensures no_memory { result ≢ Err HeapError.NoMemory }
+        ensures left { IsLeft result self.old self.new }
+        ensures objects { self.new.territories ≡ self.old.territories }
+        ensures last { self.new.last ≡ self.old.last }
+    {
+        if self.failed {
+            return Err(HeapError::Failed);
+        }
+        self.registers[d.number() as usize] = self.operand(value);
+        Ok(())
+    }
+
+    /// The value that the operand is, or that its register holds. Takes no memory, and has no fault.
+    pub fn value_of(&self, value: Operand) -> Result<Value, HeapError>
+        ensures value { IfOk result (λ v. v ≡ operand_value self.now.registers value) }
+        ensures failed { (result ≡ Err HeapError.Failed) ↔ (self.now.failed ≡ true) }
+        ensures only_failed { OnErr result (self.now.failed ≡ true) }
+    {
+        if self.failed {
+            return Err(HeapError::Failed);
+        }
+        Ok(self.operand(value))
+    }
+
+    /// The same, of a heap that has not failed.
+    pub(crate) fn operand(&self, operand: Operand) -> Value
+        requires { self.now.failed ≡ false }
+        ensures { result ≡ operand_value self.now.registers operand }
+    {
+        match operand {
+            Operand::Reg(register) => self.registers[register.number() as usize],
+            Operand::Fixnum(number) => Value::Fixnum(number),
+            Operand::Nil => Value::Nil,
+            Operand::True => Value::True,
+            Operand::False => Value::False,
+        }
+    }
+
+    /// Makes the version 2, which only line 1 may do: on any other line it answers the fault `UnknownCommand`. Takes no
+    /// memory.
+    pub fn version_two(&mut self, line: u32) -> Result<(), HeapError>
+        requires newer { self.old.last < line }
+        requires line { line ≤ greatest_line }
+        ensures step { (s : State) → Stands self.old s → Obeys s (step s line Command.Version) result self.new }
+        ensures failed { (result ≡ Err HeapError.Failed) ↔ (self.old.failed ≡ true) }
+        ensures no_memory { result ≢ Err HeapError.NoMemory }
+        ensures left { IsLeft result self.old self.new }
+        ensures objects { self.new.territories ≡ self.old.territories }
+        ensures last { self.new.last ≤ line }
+    {
+        if self.failed {
+            return Err(HeapError::Failed);
+        }
+        if line != 1 {
+            return Err(HeapError::Fault(Fault::UnknownCommand));
+        }
+        self.last = line;
+        self.version = 2;
+        Ok(())
     }
 }
