@@ -4,6 +4,7 @@ use Rattle.gc_words.specs.declared.address.TheConstants.{OFFSETS}
 use Rattle.cards.specs.Cards.{card_of, card_count}
 use Rattle.trace_types.specs.declared.kind.Kind.{Kind}
 use Rattle.segment.specs.declared.space.Space.{Space}
+use Rattle.segment.specs.declared.space.Space.TheVariants as space
 use Rattle.segment.specs.declared.segment.Role.{Role}
 use Rattle.segment.specs.declared.segment.Role.TheVariants.{Free, Current, From}
 use Rattle.segment.specs.Layout.{skip_of, kind_of, length_of, count_of, size_of}
@@ -94,6 +95,21 @@ pub record IsSound (p : Segment) : Type 0 where
 abbrev pub HasRoom : Segment → ℕ → Type 0
 HasRoom p size = (p.top + size ≤ length p.words) × (p.top < 2 * length p.births)
 
+-- a free segment that never was used
+abbrev pub vacant : Segment
+vacant = record {
+  space = space.Pair;
+  generation = 0;
+  role = Free;
+  was_held = false;
+  is_dirty = false;
+  top = 0;
+  words = [];
+  births = [];
+  cards = [];
+  marks = [];
+}
+
 -- an empty segment of so many words and possible starts
 abbrev pub opened : Space → ℕ → ℕ → ℕ → Segment
 opened space generation words births = record {
@@ -108,6 +124,26 @@ opened space generation words births = record {
   cards = replicate (card_count words) 255;
   marks = replicate births false;
 }
+
+-- with memory of this size in which nothing starts
+abbrev pub renewed : Segment → ℕ → ℕ → Segment
+renewed p words births = record p {
+  top = 0;
+  words = replicate words 0;
+  births = replicate births 0;
+  cards = replicate (card_count words) 255;
+  marks = replicate births false;
+}
+
+-- without memory for objects
+abbrev pub emptied : Segment → Segment
+emptied p = record p { top = 0; words = []; births = []; marks = [] }
+
+-- given back: free, and the memory of a large object is let go
+abbrev pub given_back : Segment → Segment
+given_back p =
+    let q : Segment = record p { role = Free; was_held = false; is_dirty = false } in
+    if length p.births == 1 then emptied q else q
 
 -- with a new object at the top: its first word, size and birth
 abbrev pub grown : Segment → ℕ → ℕ → ℕ → Segment

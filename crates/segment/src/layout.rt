@@ -81,7 +81,11 @@ pub(crate) fn length_of(space: Space, first: u64) -> u64
     ensures value { result ≡ length_of space first }
     ensures range { result < 72057594037927936 }
 {
-    if space.has_header() { first / LENGTH_UNIT } else { 2 }
+    if space.has_header() {
+        first / LENGTH_UNIT
+    } else {
+        2
+    }
 }
 
 /// The words after the header of an object of this kind and length.

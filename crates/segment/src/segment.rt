@@ -5,6 +5,8 @@ ghost use Rattle.gc_words.specs.declared.address.TheConstants.{OFFSETS};
 ghost use Rattle.segment.specs.Layout.{size_of};
 ghost use Rattle.segment.specs.Segments.{IsStart, HasRoom, object_at, grown, put_in};
 
+mod opening;
+
 use crate::layout::{kind_of, length_of};
 use crate::space::Space;
 use cards::CardTable;

@@ -1,0 +1,11 @@
+pub mod Starts
+pub mod Queues
+pub mod Graphs
+pub mod Roots
+pub mod HeapView
+pub mod Changes
+pub mod Stands
+pub mod Calls
+pub mod Registries
+pub mod Opening
+pub mod Parts

@@ -1,0 +1,16 @@
+//! The heap.
+#![tactic(auto)]
+
+mod error;
+mod heap;
+mod locks;
+mod notes;
+mod parts;
+mod registry;
+
+pub use error::{Checked, HeapError};
+pub use heap::Heap;
+pub use locks::Locks;
+pub use notes::{Noted, Notes};
+pub use parts::Parts;
+pub use registry::Registry;
