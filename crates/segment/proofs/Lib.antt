@@ -3,3 +3,4 @@ pub mod Changes
 pub mod Spots
 pub mod Calls
 pub mod Collected
+pub mod Scans

@@ -1,6 +1,7 @@
 -- What contracts see of a segment, and which objects start in it.
 use Rattle.std.specs.Prelude.{◌≡◌, ◌≢◌, ℕ, ◌+◌, ◌*◌, ◌/◌, ◌%◌, ◌<◌, ◌≤◌, ◌==◌, Bool, true, false, if◌then◌else◌, List, [], ◌∷◌, length, slice_index, slice_index_or, slice_set, take, drop, replicate, Option, Some, None, min}
 use Rattle.gc_words.specs.declared.address.TheConstants.{OFFSETS}
+use Rattle.cards.specs.declared.table.TheConstants.{WORDS_PER_CARD}
 use Rattle.cards.specs.Cards.{card_of, card_count, IsDirty}
 use Rattle.trace_types.specs.declared.kind.Kind.{Kind}
 use Rattle.segment.specs.declared.space.Space.{Space}
@@ -200,3 +201,7 @@ kept_marked p generation = record p {
 abbrev pub HasDirtyWord : Segment → ℕ → ℕ → Type 0
 HasDirtyWord p limit k =
     IsStart p k × ((word : ℕ) × (2 * k ≤ word) × (word < 2 * k + size_at p k) × IsDirty p.cards limit (card_of word))
+
+-- what starts at k ends past the first word of the card
+abbrev pub EndsPast : Segment → ℕ → ℕ → Type 0
+EndsPast p card k = WORDS_PER_CARD * card < 2 * k + size_at p k
