@@ -2,10 +2,12 @@
 use Rattle.std.proofs.Common.{◌≡◌, ◌≢◌, ℕ, zero, suc, ◌+◌, ◌*◌, ◌/◌, ◌<◌, ◌≤◌, min, Bool, true, false, cond, eqb, List, [], ◌∷◌, length, get_or, set, replicate, Option, Some, None, refl, sym, ◌∙◌, ap, subst, arith, inl, inr, get_or-set_same, get_or-set_other}
 use Rattle.std.proofs.lemmas.List.{ext_get_or, get_or_past, length-set, length-replicate, get_or-replicate}
 use Rattle.std.proofs.lemmas.Bool.{cases_eq, cases_lt}
-use Rattle.cards.specs.Cards.{card_of}
+use Rattle.gc_words.specs.declared.address.TheConstants.{OFFSETS}
+use Rattle.cards.specs.Cards.{card_of, card_count}
+use Rattle.segment.specs.declared.space.Space.{Space}
 use Rattle.segment.specs.declared.segment.Role.TheVariants.{Free, Current, From}
-use Rattle.segment.specs.Segments.{Start, Segment, object_at, is_free, spot, IsStart, IsLaid, IsSound, marked_at, set_aside, held_at, marked_births, kept_marked, emptied, given_back}
-use Rattle.segment.proofs.Spots.{spot_is, spot_start, spot_none, spot_same}
+use Rattle.segment.specs.Segments.{Start, Segment, object_at, is_free, spot, IsStart, IsLaid, IsSound, vacant, opened, marked_at, set_aside, held_at, marked_births, kept_marked, emptied, given_back}
+use Rattle.segment.proofs.Spots.{spot_is, spot_start, spot_none, spot_same, zero_at}
 
 -- ---- a card marked
 
@@ -83,6 +85,110 @@ IsSound-kept p generation h aside =
       laid = IsLaid-kept p generation h.laid h.marks;
     }
 
+-- ---- the other calls leave a sound segment
+
+pub IsSound-vacant : IsSound vacant
+IsSound-vacant = record {
+  small = omega arith;
+  births = omega arith;
+  marks = refl;
+  cards = λ some. absurd (omega arith);
+  clean = λ u e card within. absurd (omega arith);
+  dirty = λ e. cc;
+  free = λ f. refl;
+  unheld = λ e. cc;
+  laid = record { top_in = omega arith; even = refl; zero_above = λ i h. refl; loose = λ k h. refl; fit = λ k some. absurd (some refl); apart = λ j k lt some other. absurd (some refl) };
+}
+
+pub IsSound-opened : (s : Space) (generation words births : ℕ) → 2 * births ≤ words → words ≤ OFFSETS → IsSound (opened s generation words births)
+IsSound-opened s generation words births h small =
+    let lw : length (replicate {A = ℕ} words 0) ≡ words = length-replicate {A = ℕ} words 0 in
+    let lb : length (replicate {A = ℕ} births 0) ≡ births = length-replicate {A = ℕ} births 0 in
+    let lm : length (replicate {A = Bool} births false) ≡ births = length-replicate {A = Bool} births false in
+    let lc : length (replicate {A = ℕ} (card_count words) 255) ≡ card_count words = length-replicate {A = ℕ} (card_count words) 255 in
+    record {
+      small = omega arith;
+      births = omega arith;
+      marks = lm ∙ sym lb;
+      cards = λ some. lc ∙ ap card_count (sym lw);
+      clean = λ u e card within. get_or-replicate (card_count words) card 255 0 (omega arith);
+      dirty = λ e. cc;
+      free = λ f. refl;
+      unheld = λ e k. no_mark births k;
+      laid = record {
+        top_in = omega arith;
+        even = refl;
+        zero_above = λ i above. zero_at words i 0;
+        loose = λ k above. zero_at births k 0;
+        fit = λ k some. absurd (some (zero_at births k 0));
+        apart = λ j k lt some other. absurd (some (zero_at births j 0));
+      };
+    }
+
+pub IsSound-aside : (p : Segment) → IsSound p → is_free p.role ≡ false → IsSound (set_aside p)
+IsSound-aside p h used = record {
+  small = h.small;
+  births = h.births;
+  marks = h.marks;
+  cards = h.cards;
+  clean = λ u. h.clean used;
+  dirty = h.dirty;
+  free = λ f. cc;
+  unheld = λ e. cc;
+  laid = record { top_in = h.laid.top_in; even = h.laid.even; zero_above = h.laid.zero_above; loose = h.laid.loose; fit = h.laid.fit; apart = h.laid.apart };
+}
+
+pub IsSound-held : (p : Segment) (k : ℕ) → IsSound p → p.role ≡ From → IsSound (held_at p k)
+IsSound-held p k h aside = record {
+  small = h.small;
+  births = h.births;
+  marks = length-set p.marks k true ∙ h.marks;
+  cards = h.cards;
+  clean = h.clean;
+  dirty = h.dirty;
+  free = h.free;
+  unheld = λ e. cc;
+  laid = record { top_in = h.laid.top_in; even = h.laid.even; zero_above = h.laid.zero_above; loose = h.laid.loose; fit = h.laid.fit; apart = h.laid.apart };
+}
+
+freed : Segment → Segment
+freed p = record p { role = Free; was_held = false; is_dirty = false }
+
+IsSound-freed : (p : Segment) → IsSound p → IsSound (freed p)
+unfolding freed
+IsSound-freed p h = record {
+  small = h.small;
+  births = h.births;
+  marks = h.marks;
+  cards = h.cards;
+  clean = λ u. cc;
+  dirty = λ e. cc;
+  free = λ f. refl;
+  unheld = λ e. cc;
+  laid = record { top_in = h.laid.top_in; even = h.laid.even; zero_above = h.laid.zero_above; loose = h.laid.loose; fit = h.laid.fit; apart = h.laid.apart };
+}
+
+IsSound-emptied : (p : Segment) → IsSound p → IsSound (emptied (freed p))
+unfolding freed
+IsSound-emptied p h = record {
+  small = omega arith;
+  births = omega arith;
+  marks = refl;
+  cards = λ some. absurd (omega arith);
+  clean = λ u. cc;
+  dirty = λ e. cc;
+  free = λ f. refl;
+  unheld = λ e. cc;
+  laid = record { top_in = omega arith; even = refl; zero_above = λ i above. refl; loose = λ k above. refl; fit = λ k some. absurd (some refl); apart = λ j k lt some other. absurd (some refl) };
+}
+
+pub IsSound-given_back : (p : Segment) → IsSound p → IsSound (given_back p)
+unfolding freed
+IsSound-given_back p h =
+    let whole : IsSound (freed p) = IsSound-freed p h in
+    let none : IsSound (emptied (freed p)) = IsSound-emptied p h in
+    elim (eqb (length p.births) 1) as (λ t. IsSound (cond t (emptied (freed p)) (freed p))) [ true ↦ none | false ↦ whole ]
+
 -- ---- what starts after these calls
 
 pub spot_aside : (p : Segment) (k : ℕ) → is_free p.role ≡ false → spot (set_aside p) k ≡ spot p k
@@ -106,3 +212,6 @@ spot_dropped p generation k h mark =
 
 pub spot_given_back : (p : Segment) (k : ℕ) → spot (given_back p) k ≡ None
 spot_given_back p k = elim (eqb (length p.births) 1) as (λ t. spot (let q : Segment = record p { role = Free; was_held = false; is_dirty = false } in cond t (emptied q) q) k ≡ None) [ true ↦ refl | false ↦ refl ]
+
+pub spot_vacant : (k : ℕ) → spot vacant k ≡ None
+spot_vacant k = refl
