@@ -4,10 +4,10 @@ use Rattle.std.proofs.lemmas.List.{length-take}
 use Rattle.cards.specs.Cards.{card_of, card_count}
 use Rattle.segment.specs.Layout.{skip_of, count_of, size_of}
 use Rattle.segment.specs.declared.segment.Role.TheVariants.{Current, From}
-use Rattle.segment.specs.Segments.{Segment, first_at, words_at, place_in, is_free, IsStart, IsSound, HasRoom, put_in, grown, marked_at, marked_births, kept_marked}
+use Rattle.segment.specs.Segments.{Segment, first_at, words_at, place_in, is_free, IsStart, IsSound, HasRoom, put_in, grown, marked_at, marked_births, kept_marked, start_at, kept_spot}
 use Rattle.segment.proofs.Sizes.{size_covers}
 use Rattle.segment.proofs.Changes.{IsSound-put, IsSound-grown}
-use Rattle.segment.proofs.Collected.{IsSound-marked, IsSound-kept}
+use Rattle.segment.proofs.Collected.{IsSound-marked, IsSound-kept, spot_kept_all}
 use Rattle.segment.proofs.Spots.{in_words, start_in}
 
 pub put_seen : (p now : Segment) (k index s w : ℕ) → IsSound p → p ≡ now → IsStart now k → index < length (words_at now k) → s ≡ skip_of p.space
@@ -43,3 +43,10 @@ kept_seen p now g n births marks h e aside b m long =
     let k : IsSound (kept_marked p g) = IsSound-kept p g h (ap (λ (v : Segment). v.role) e ∙ aside) in
     subst (λ (v : List ℕ). IsSound (record p { generation = g; role = Current; was_held = true; births = v; marks = marks })) (sym b)
     (subst (λ (v : List Bool). IsSound (record p { generation = g; role = Current; was_held = true; births = marked_births p.births p.marks; marks = v })) (sym (m ∙ ap (λ v. replicate v false) long)) k)
+
+pub kept_starts : (p now : Segment) (g k : ℕ) (births : List ℕ) (marks : List Bool) → IsSound p → p ≡ now → now.role ≡ From → births ≡ marked_births p.births p.marks
+    → start_at (record p { generation = g; role = Current; was_held = true; births = births; marks = marks }) k ≡ kept_spot now g k
+kept_starts p now g k births marks h e aside b =
+    let used : is_free p.role ≡ false = ap (λ (v : Segment). is_free v.role) e ∙ ap is_free aside in
+    ap (λ (v : List ℕ). start_at (record p { generation = g; role = Current; was_held = true; births = v; marks = marks }) k) b
+    ∙ (spot_kept_all p g k h used ∙ ap (λ (v : Segment). kept_spot v g k) e)

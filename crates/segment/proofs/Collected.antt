@@ -6,7 +6,7 @@ use Rattle.gc_words.specs.declared.address.TheConstants.{OFFSETS}
 use Rattle.cards.specs.Cards.{card_of, card_count}
 use Rattle.segment.specs.declared.space.Space.{Space}
 use Rattle.segment.specs.declared.segment.Role.TheVariants.{Free, Current, From}
-use Rattle.segment.specs.Segments.{Start, Segment, object_at, is_free, spot, IsStart, IsLaid, IsSound, vacant, opened, marked_at, set_aside, held_at, marked_births, kept_marked, emptied, given_back}
+use Rattle.segment.specs.Segments.{Start, Segment, object_at, is_free, spot, IsStart, IsLaid, IsSound, vacant, opened, marked_at, set_aside, held_at, marked_births, kept_marked, in_generation, kept_spot, emptied, given_back}
 use Rattle.segment.proofs.Spots.{spot_is, spot_start, spot_none, spot_same, zero_at}
 
 -- ---- a card marked
@@ -209,6 +209,17 @@ spot_kept p generation k x h e mark =
 pub spot_dropped : (p : Segment) (generation k : ℕ) → IsSound p → get_or p.marks k false ≡ false → spot (kept_marked p generation) k ≡ None
 spot_dropped p generation k h mark =
     spot_none (kept_marked p generation) k (get_or-marked_births p.births p.marks k h.marks ∙ ap (λ t. cond t (get_or p.births k 0) 0) mark)
+
+pub spot_kept_all : (p : Segment) (generation k : ℕ) → IsSound p → is_free p.role ≡ false → spot (kept_marked p generation) k ≡ kept_spot p generation k
+spot_kept_all p generation k h used =
+    elim (get_or p.marks k false) as (λ t. get_or p.marks k false ≡ t → spot (kept_marked p generation) k ≡ cond t (in_generation generation (spot p k)) None) [
+      | true ↦ λ m.
+          elim (cases_eq (get_or p.births k 0) 0) [
+            | inl z ↦ spot_none (kept_marked p generation) k (get_or-marked_births p.births p.marks k h.marks ∙ (ap (λ t. cond t (get_or p.births k 0) 0) m ∙ z)) ∙ sym (ap (in_generation generation) (spot_none p k z))
+            | inr some ↦ let s : spot p k ≡ Some (object_at p k) = spot_start p k (used, some) in spot_kept p generation k (object_at p k) h s m ∙ sym (ap (in_generation generation) s)
+          ]
+      | false ↦ λ m. spot_dropped p generation k h m
+    ] refl
 
 pub spot_given_back : (p : Segment) (k : ℕ) → spot (given_back p) k ≡ None
 spot_given_back p k = elim (eqb (length p.births) 1) as (λ t. spot (let q : Segment = record p { role = Free; was_held = false; is_dirty = false } in cond t (emptied q) q) k ≡ None) [ true ↦ refl | false ↦ refl ]

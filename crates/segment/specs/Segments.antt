@@ -195,13 +195,22 @@ kept_marked p generation = record p {
   marks = replicate (length p.marks) false;
 }
 
+-- the same start in another generation
+abbrev pub in_generation : ℕ → Option Start → Option Start
+in_generation generation None = None
+in_generation generation (Some x) = Some (record x { generation = generation })
+
+-- what then starts at offset 2 k: what was held there
+abbrev pub kept_spot : Segment → ℕ → ℕ → Option Start
+kept_spot p generation k = if slice_index_or p.marks k false then in_generation generation (spot p k) else None
+
 -- ---- the search for starts
+
+-- what starts at k ends past the first word of the card
+abbrev pub EndsPast : Segment → ℕ → ℕ → Type 0
+EndsPast p card k = WORDS_PER_CARD * card < 2 * k + size_at p k
 
 -- start k has a word, its header counted, under a card whose byte is at most the limit
 abbrev pub HasDirtyWord : Segment → ℕ → ℕ → Type 0
 HasDirtyWord p limit k =
     IsStart p k × ((word : ℕ) × (2 * k ≤ word) × (word < 2 * k + size_at p k) × IsDirty p.cards limit (card_of word))
-
--- what starts at k ends past the first word of the card
-abbrev pub EndsPast : Segment → ℕ → ℕ → Type 0
-EndsPast p card k = WORDS_PER_CARD * card < 2 * k + size_at p k

@@ -1,9 +1,9 @@
 //! What a collection does with a segment: it sets it aside, holds starts at their place, and in the end
 //! keeps those alone. A segment without a held start is given back whole.
 
-ghost use Rattle.std.specs.Prelude.{◌≡◌, ◌+◌, ◌<◌, false, length, vec_len, replicate};
+ghost use Rattle.std.specs.Prelude.{◌≡◌, ℕ, ◌+◌, ◌<◌, false, length, vec_len, replicate};
 ghost use Rattle.segment.specs.declared.segment.Role.TheVariants.{From};
-ghost use Rattle.segment.specs.Segments.{IsStart, is_free, set_aside, held_at, marked_births, kept_marked};
+ghost use Rattle.segment.specs.Segments.{IsStart, is_free, set_aside, held_at, marked_births, kept_marked, spot, kept_spot};
 
 use super::{Role, Segment};
 
@@ -29,7 +29,8 @@ impl Segment {
     /// kept objects at their place: each held start stays as it is, and nothing else starts here any more.
     pub fn keep_marked(&mut self, generation: u8)
         requires aside { self.old.role ≡ From }
-        ensures { self.new ≡ kept_marked self.old generation }
+        ensures after { self.new ≡ kept_marked self.old generation }
+        ensures starts { (k : ℕ) → spot self.new k ≡ kept_spot self.old generation k }
     {
         keep_marked_births(&mut self.births, &self.marks);
         self.marks.fill(false);
