@@ -1,33 +1,23 @@
 -- The chain of dirty segments, after each change.
-use Rattle.std.proofs.Common.{◌≡◌, ◌≢◌, ℕ, ◌+◌, ◌<◌, ◌≤◌, Bool, true, false, cond, List, [], ◌∷◌, ◌++◌, length, get_or, set, refl, sym, ◌∙◌, ap, subst, arith, inl, inr}
+use Rattle.std.proofs.Common.{◌≡◌, ◌≢◌, ℕ, ◌+◌, ◌<◌, ◌≤◌, Bool, true, false, cond, List, [], ◌∷◌, ◌++◌, length, set, refl, sym, ◌∙◌, ap, subst, arith, inl, inr}
 use Rattle.std.proofs.lemmas.Bool.{cases_eq, cases_lt}
 use Rattle.std.proofs.lemmas.List.{length-set, length_push, get_or_past}
 use Rattle.seg_chain.specs.Lists.{chain_of, link_count, times, times_all, without, moved, EachOnce}
 use Rattle.seg_chain.proofs.Counts.{times-append, times_two}
 use Rattle.seg_chain.proofs.Laws.{times-without, length-moved, chain_of-moved_from, chain_of-moved_to, has_chain, times_of}
 use Rattle.segment.specs.Segments.{vacant, Segment}
-use Rattle.territory.specs.Pools.{numbered, IsIn, HasMark, AreDirty, shows_dirty}
+use Rattle.territory.specs.Pools.{numbered, IsIn, AreDirty, shows_dirty}
 use Rattle.territory.proofs.Numbers.{numbered-set_same, numbered-set_other, numbered_push, numbered_past, each_same}
 use Rattle.territory.proofs.Listing.{last_in, is_last, chain_within, linked_below, times_without_self}
 
-abbrev MarkIn : List ℕ → Type 0
-MarkIn cards = (card : ℕ) × (card < length cards) × (get_or cards card 0 ≢ 255)
-
 -- the chain stays where a segment shows the same
-pub dirty_same : (segments : List Segment) (dirty : List (List ℕ)) (n : ℕ) (p : Segment) → AreDirty segments dirty → shows_dirty p ≡ shows_dirty (numbered segments n) → (shows_dirty p ≡ true → p.cards ≡ (numbered segments n).cards) → n < length segments → AreDirty (set segments n p) dirty
-dirty_same segments dirty n p d e f b = record {
+pub dirty_same : (segments : List Segment) (dirty : List (List ℕ)) (n : ℕ) (p : Segment) → AreDirty segments dirty → shows_dirty p ≡ shows_dirty (numbered segments n) → AreDirty (set segments n p) dirty
+dirty_same segments dirty n p d e = record {
   chains = d.chains;
   known = omega (arith, d.known, length-set segments n p);
   each_once = d.each_once;
   shown = λ m i. each_same shows_dirty segments n p e m ∙ d.shown m i;
   listed = λ m t. d.listed m (sym (each_same shows_dirty segments n p e m) ∙ t);
-  marked = λ m t. elim (cases_eq m n) [
-    | inl same ↦
-        let here : numbered (set segments n p) m ≡ p = ap (numbered (set segments n p)) same ∙ numbered-set_same segments n p b in
-        let shows : shows_dirty p ≡ true = ap shows_dirty (sym here) ∙ t in
-        subst HasMark (sym here) (subst MarkIn (sym (f shows)) (d.marked n (sym e ∙ shows)))
-    | inr other ↦ subst HasMark (sym (numbered-set_other segments n m p other)) (d.marked m (sym (each_same shows_dirty segments n p e m) ∙ t))
-  ];
 }
 
 -- a vacant segment more, for which there is a link
@@ -38,7 +28,6 @@ dirty_push segments dirty d b = record {
   each_once = d.each_once;
   shown = λ m i. ap shows_dirty (numbered_push segments m) ∙ d.shown m i;
   listed = λ m t. d.listed m (sym (ap shows_dirty (numbered_push segments m)) ∙ t);
-  marked = λ m t. subst HasMark (sym (numbered_push segments m)) (d.marked m (sym (ap shows_dirty (numbered_push segments m)) ∙ t));
 }
 
 -- links more, all of them clean
@@ -49,7 +38,6 @@ dirty_linked segments dirty dirty' d l more once same = record {
   each_once = once;
   shown = λ m i. d.shown m (subst (λ v. 0 < times m v) same i);
   listed = λ m t. subst (λ v. 0 < times m v) (sym same) (d.listed m t);
-  marked = d.marked;
 }
 
 -- a segment that is not dirty has its link among the clean ones
@@ -63,9 +51,9 @@ clean_in segments dirty n d b clean =
     ]
 
 -- a segment becomes dirty
-pub dirty_marked : (segments : List Segment) (dirty : List (List ℕ)) (n : ℕ) (p : Segment) → AreDirty segments dirty → n < length segments → shows_dirty p ≡ true → HasMark p → link_count (moved dirty 0 1 n) ≡ link_count dirty → EachOnce (moved dirty 0 1 n)
+pub dirty_marked : (segments : List Segment) (dirty : List (List ℕ)) (n : ℕ) (p : Segment) → AreDirty segments dirty → n < length segments → shows_dirty p ≡ true → link_count (moved dirty 0 1 n) ≡ link_count dirty → EachOnce (moved dirty 0 1 n)
     → AreDirty (set segments n p) (moved dirty 0 1 n)
-dirty_marked segments dirty n p d b shows mark k once =
+dirty_marked segments dirty n p d b shows k once =
     let chain : chain_of (moved dirty 0 1 n) 1 ≡ chain_of dirty 1 ++ n ∷ [] = chain_of-moved_to dirty 0 1 n (omega (arith, d.chains)) in
     record {
       chains = length-moved dirty 0 1 n ∙ d.chains;
@@ -79,8 +67,4 @@ dirty_marked segments dirty n p d b shows mark k once =
         | inl same ↦ subst (λ v. 0 < times v (chain_of dirty 1 ++ n ∷ [])) (sym same) (is_last n (chain_of dirty 1))
         | inr other ↦ omega (arith, times-append m (chain_of dirty 1) (n ∷ []), d.listed m (sym (ap shows_dirty (numbered-set_other segments n m p other)) ∙ t))
       ]);
-      marked = λ m t. elim (cases_eq m n) [
-        | inl same ↦ subst HasMark (sym (ap (numbered (set segments n p)) same ∙ numbered-set_same segments n p b)) mark
-        | inr other ↦ subst HasMark (sym (numbered-set_other segments n m p other)) (d.marked m (sym (ap shows_dirty (numbered-set_other segments n m p other)) ∙ t))
-      ];
     }

@@ -11,7 +11,8 @@ use Rattle.seg_chain.specs.Lists.{chain_of, link_count, times, with_last, EachOn
 use Rattle.seg_chain.proofs.Counts.{times_from_index}
 use Rattle.seg_chain.proofs.Calls.{link_count-replicate}
 use Rattle.seg_chain.proofs.Laws.{chain_of-replicate, chain_of-with_last}
-use Rattle.segment.specs.Segments.{Segment, IsSound, IsLaid, vacant}
+use Rattle.segment.specs.Segments.{Segment, Start, IsSound, spot, vacant}
+use Rattle.segment.proofs.Collected.{IsSound-vacant, spot_vacant}
 use Rattle.territory.specs.declared.counts.SegmentCounts.{SegmentCounts}
 use Rattle.territory.specs.Territories.{IsNextNumber, with_number}
 use Rattle.territory.specs.Pools.{PoolView, numbered, list_of, IsIn, IsOpenFor, AreListed, AreOpen, AreDirty, AreCounted, IsSettled, used_words, is_held, cells_in, shows_dirty}
@@ -21,23 +22,6 @@ use Rattle.territory.proofs.Listing.{listed_push, listed_more, linked_below, is_
 use Rattle.territory.proofs.Dirtying.{dirty_push, dirty_linked}
 use Rattle.territory.proofs.Opening.{open_push}
 use Rattle.territory.proofs.Counting.{counted_push}
-
-sound_vacant : IsSound vacant
-sound_vacant = record {
-  small = omega arith;
-  births = omega arith;
-  marks = refl;
-  cards = λ b. absurd (omega arith);
-  clean = λ e f card b. absurd (omega arith);
-  laid = record {
-    top_in = omega arith;
-    even = refl;
-    zero_above = λ i b. refl;
-    loose = λ k b. refl;
-    fit = λ k b. absurd (b refl);
-    apart = λ j k b bj bk. absurd (bj refl);
-  };
-}
 
 -- a vacant segment more
 pub settled_push : (p now : PoolView) (dirty : List (List ℕ)) (segments : List Segment) (s : Segment) → p ≡ now → IsSettled now → link_count now.lists < SEGMENTS → length p.segments ≤ link_count p.lists
@@ -51,6 +35,7 @@ settled_push p now dirty segments s e done room all two links once same more is 
       count = omega (arith, length_push p.segments vacant);
       sound = λ n. subst IsSound (sym (numbered_push p.segments n)) (t.sound n);
       generations = λ n. subst (λ (q : Segment). q.generation < 9) (sym (numbered_push p.segments n)) (t.generations n);
+      lengths = λ n k x h. t.lengths n k x (ap (λ q. spot q k) (sym (numbered_push p.segments n)) ∙ h);
       listed = listed_push p.segments p.lists t.listed;
       open_areas = open_push p.segments p.areas t.open_areas;
       dirty = dirty_push p.segments dirty (dirty_linked p.segments p.dirty dirty t.dirty two links once same) more;
@@ -61,7 +46,7 @@ settled_push p now dirty segments s e done room all two links once same more is 
 pub settled_links : (p now : PoolView) (dirty : List (List ℕ)) → p ≡ now → IsSettled now → length dirty ≡ 2 → link_count p.dirty ≤ link_count dirty → EachOnce dirty → chain_of dirty 1 ≡ chain_of p.dirty 1 → IsSettled (record p { dirty = dirty })
 settled_links p now dirty e done two links once same =
     let t : IsSettled p = subst IsSettled (sym e) done in
-    record { count = t.count; sound = t.sound; generations = t.generations; listed = t.listed; open_areas = t.open_areas; dirty = dirty_linked p.segments p.dirty dirty t.dirty two links once same; counted = t.counted }
+    record { count = t.count; sound = t.sound; generations = t.generations; lengths = t.lengths; listed = t.listed; open_areas = t.open_areas; dirty = dirty_linked p.segments p.dirty dirty t.dirty two links once same; counted = t.counted }
 
 -- the next number is free
 pub settled_more : (p now : PoolView) (lists : List (List ℕ)) (n : ℕ) → p ≡ now → IsSettled now → n ≡ link_count p.lists → link_count now.lists < length now.segments → lists ≡ with_last p.lists 0 n → link_count lists ≡ link_count p.lists + 1 → EachOnce lists → IsSettled (record p { lists = lists })
@@ -72,6 +57,7 @@ settled_more p now lists n eq done i b' e k once =
   count = t.count;
   sound = t.sound;
   generations = t.generations;
+  lengths = t.lengths;
   listed = subst (AreListed p.segments) (sym e) (listed_more p.segments p.lists n t.listed i b (ap link_count (sym e) ∙ k) (subst EachOnce e once));
   open_areas = t.open_areas;
   dirty = t.dirty;
@@ -140,8 +126,9 @@ settled_new segments areas lists dirty counts e f g once h once' c =
     let at : (n : ℕ) → vacant ≡ numbered segments n = λ n. sym (numbered_past segments n (omega arith)) in
     record {
       count = omega arith;
-      sound = λ n. subst IsSound (at n) sound_vacant;
+      sound = λ n. subst IsSound (at n) IsSound-vacant;
       generations = λ n. subst (λ (q : Segment). q.generation < 9) (at n) (omega arith);
+      lengths = λ n k x h. absurd (let z : None ≡ Some x = sym (spot_vacant k) ∙ (ap (λ q. spot q k) (at n) ∙ h) in cc);
       listed = record {
         chains = ap length g ∙ length-replicate {A = List ℕ} 19 [];
         known = omega (arith, ap link_count g, link_count-replicate 19);
@@ -159,7 +146,6 @@ settled_new segments areas lists dirty counts e f g once h once' c =
         each_once = once';
         shown = λ n i. absurd (none_in 2 1 n (subst (λ v. 0 < times n (chain_of v 1)) h i));
         listed = λ n t. let z : shows_dirty (numbered segments n) ≡ false = ap shows_dirty (sym (at n)) in cc;
-        marked = λ n t. let z : shows_dirty (numbered segments n) ≡ false = ap shows_dirty (sym (at n)) in cc;
       };
       counted = record {
         words = ap (λ (v : SegmentCounts). v.segment_words) c ∙ sym (ap (sum_by used_words) e);

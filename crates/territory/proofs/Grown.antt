@@ -1,16 +1,19 @@
 -- A pool makes an object.
-use Rattle.std.proofs.Common.{◌≡◌, ◌≢◌, ℕ, zero, suc, ◌+◌, ◌*◌, ◌/◌, ◌<◌, ◌≤◌, Bool, true, false, cond, not, eqb, ◌&&◌, List, [], ◌∷◌, length, get_or, set, refl, sym, ◌∙◌, ap, subst, arith, inl, inr}
+use Rattle.std.proofs.Common.{◌≡◌, ◌≢◌, ℕ, zero, suc, ◌+◌, ◌*◌, ◌/◌, ◌<◌, ◌≤◌, Bool, true, false, cond, not, eqb, ◌&&◌, List, [], ◌∷◌, length, get_or, set, replicate, Option, Some, None, refl, sym, ◌∙◌, ap, subst, arith, inl, inr}
 use Rattle.std.proofs.lemmas.List.{length-set, get_or_read}
 use Rattle.std.proofs.lemmas.List.Sums.{count_by-le-length}
+use Rattle.std.proofs.lemmas.Bool.{cases_eq}
+use Rattle.std.proofs.lemmas.Option.{same_Some}
 use Rattle.std.proofs.lemmas.Bool.Decides.{nat_tests}
 use Rattle.std.specs.List.{sum_by, count_by}
 use Rattle.gc_words.specs.declared.address.TheConstants.{SEGMENTS, OFFSETS}
-use Rattle.segment.specs.Layout.{size_of}
-use Rattle.segment.specs.Segments.{Segment, IsSound, HasRoom, is_free, grown, vacant}
+use Rattle.segment.specs.Layout.{size_of, skip_of, kind_of, length_of, count_of, HasLength}
+use Rattle.segment.specs.Segments.{Segment, Start, IsSound, spot, HasRoom, is_free, grown, vacant}
 use Rattle.segment.proofs.Changes.{IsSound-grown}
+use Rattle.segment.proofs.Spots.{spot_grown, spot_grown_other}
 use Rattle.territory.specs.declared.counts.SegmentCounts.{SegmentCounts}
 use Rattle.territory.specs.Pools.{PoolView, numbered, IsSettled, used_words, is_held, is_cell_space, cells_in}
-use Rattle.territory.proofs.Numbers.{each_set, sum_by-set}
+use Rattle.territory.proofs.Numbers.{each_set, spot_set, sum_by-set}
 use Rattle.territory.proofs.Listing.{listed_same}
 use Rattle.territory.proofs.Dirtying.{dirty_same}
 use Rattle.territory.proofs.Opening.{open_changed}
@@ -54,10 +57,21 @@ pub at_most_one : (b : Bool) (n : ℕ) → n ≡ cond b 1 0 → n ≤ 1
 at_most_one true n e = omega arith
 at_most_one false n e = omega arith
 
-pub settled_grown : (p now : PoolView) (n first size birth cells : ℕ) (q q' r : Segment) → p ≡ now → IsSettled now → n < length now.segments → is_free (numbered now.segments n).role ≡ false → HasRoom (numbered now.segments n) size → size ≡ size_of (numbered now.segments n).space first → 0 < birth
+grown_lengths : (p : Segment) (first size birth : ℕ) → IsSound p → is_free p.role ≡ false → 0 < birth → size ≡ size_of p.space first → HasRoom p size → (skip_of p.space ≡ 0 → first ≡ 0) → HasLength (kind_of p.space first) (length_of p.space first)
+    → ((k : ℕ) (x : Start) → spot p k ≡ Some x → HasLength x.kind x.length) → (k : ℕ) (x : Start) → spot (grown p first size birth) k ≡ Some x → HasLength x.kind x.length
+grown_lengths p first size birth s used pos is room bare fits old k x h =
+    elim (cases_eq k (p.top / 2)) [
+      | inl e ↦
+          let here : Some (record { kind = kind_of p.space first; length = length_of p.space first; generation = p.generation; birth = birth; words = replicate (count_of p.space first) 0 }) ≡ Some x =
+          sym (spot_grown p first size birth s.laid used (omega arith) is room bare) ∙ (ap (spot (grown p first size birth)) (sym e) ∙ h) in
+          subst (λ (v : Start). HasLength v.kind v.length) (same_Some _ _ here) fits
+      | inr ne ↦ old k x (sym (spot_grown_other p first size birth k s.laid ne) ∙ h)
+    ]
+
+pub settled_grown : (p now : PoolView) (n first size birth cells : ℕ) (q q' r : Segment) → p ≡ now → IsSettled now → n < length now.segments → is_free (numbered now.segments n).role ≡ false → HasRoom (numbered now.segments n) size → size ≡ size_of (numbered now.segments n).space first → 0 < birth → (skip_of (numbered now.segments n).space ≡ 0 → first ≡ 0) → HasLength (kind_of (numbered now.segments n).space first) (length_of (numbered now.segments n).space first)
     → q ≡ get_or p.segments n q → q' ≡ grown q first size birth → r ≡ get_or p.segments n r → cells ≡ cond (is_cell_space r.space) 1 0
     → IsSettled (record p { segments = set p.segments n q'; counts = record p.counts { cells = p.counts.cells + cells } })
-settled_grown p now n first size birth cells q q' r e done within used room is pos read is' again cells_is =
+settled_grown p now n first size birth cells q q' r e done within used room is pos bare fits read is' again cells_is =
     let t : IsSettled p = subst IsSettled (sym e) done in
     let old : Segment = numbered p.segments n in
     let back : old ≡ numbered now.segments n = ap (λ (v : PoolView). numbered v.segments n) e in
@@ -66,6 +80,8 @@ settled_grown p now n first size birth cells q q' r e done within used room is p
     let used' : is_free old.role ≡ false = subst (λ (v : Segment). is_free v.role ≡ false) (sym back) used in
     let room' : HasRoom old size = subst (λ v. HasRoom v size) (sym back) room in
     let size' : size ≡ size_of old.space first = subst (λ (v : Segment). size ≡ size_of v.space first) (sym back) is in
+    let bare' : skip_of old.space ≡ 0 → first ≡ 0 = subst (λ (v : Segment). skip_of v.space ≡ 0 → first ≡ 0) (sym back) bare in
+    let fits' : HasLength (kind_of old.space first) (length_of old.space first) = subst (λ (v : Segment). HasLength (kind_of v.space first) (length_of v.space first)) (sym back) fits in
     let g : Segment = grown old first size birth in
     let g_is : g ≡ q' = sym (is' ∙ ap (λ v. grown v first size birth) same) in
     let words : length g.words ≡ length old.words = length-set old.words old.top first in
@@ -73,9 +89,10 @@ settled_grown p now n first size birth cells q q' r e done within used room is p
       count = omega (arith, length-set p.segments n g, t.count);
       sound = each_set IsSound p.segments n g t.sound (IsSound-grown old first size birth (t.sound n) size' room');
       generations = each_set (λ (v : Segment). v.generation < 9) p.segments n g t.generations (t.generations n);
+      lengths = spot_set p.segments n g t.lengths (grown_lengths old first size birth (t.sound n) used' pos size' room' bare' fits' (t.lengths n));
       listed = listed_same p.segments p.lists n g t.listed refl;
       open_areas = open_changed p.segments p.areas n g t.open_areas b (λ k o. record { current = o.current; space_is = o.space_is; generation_is = o.generation_is; never_held = o.never_held });
-      dirty = dirty_same p.segments p.dirty n g t.dirty refl (λ c. refl) b;
+      dirty = dirty_same p.segments p.dirty n g t.dirty refl;
       counted = counted_changed p.segments p.areas p.counts (record p.counts { cells = p.counts.cells + cells }) n g 0 cells t.counted b
           (used_same (is_free old.role) (length g.words) (length old.words) words)
           (ap (λ v. cond (is_free old.role) false (old.was_held && eqb v 512)) words)

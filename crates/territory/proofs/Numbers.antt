@@ -4,7 +4,8 @@ use Rattle.std.proofs.lemmas.List.{get_or_past, get_or_append_left, get_or_push,
 use Rattle.std.proofs.lemmas.List.Sums.{sum_by-cons, sum_by_push}
 use Rattle.std.proofs.lemmas.Bool.{cases_eq, cases_lt}
 use Rattle.std.specs.List.{sum_by}
-use Rattle.segment.specs.Segments.{vacant, Segment}
+use Rattle.segment.specs.Segments.{vacant, Segment, Start, spot}
+use Rattle.segment.specs.Layout.{HasLength}
 use Rattle.territory.specs.Territories.{SegmentView}
 use Rattle.territory.specs.Pools.{numbered, seen}
 
@@ -38,6 +39,11 @@ each_set P segments n p h k m =
       ]
       | inr far ↦ subst (λ v. P (numbered v m)) (sym (set_past segments n p far)) (h m)
     ]
+
+-- what holds of each start, where one segment changed
+pub spot_set : (segments : List Segment) (n : ℕ) (p : Segment) → ((m k : ℕ) (x : Start) → spot (numbered segments m) k ≡ Some x → HasLength x.kind x.length) → ((k : ℕ) (x : Start) → spot p k ≡ Some x → HasLength x.kind x.length)
+    → (m k : ℕ) (x : Start) → spot (numbered (set segments n p) m) k ≡ Some x → HasLength x.kind x.length
+spot_set segments n p old new m = each_set (λ q. (k : ℕ) (x : Start) → spot q k ≡ Some x → HasLength x.kind x.length) segments n p old new m
 
 -- what does not differ at the segment that changed differs nowhere
 pub each_same : {X : Type 0} (F : Segment → X) (segments : List Segment) (n : ℕ) (p : Segment) → F p ≡ F (numbered segments n) → (m : ℕ) → F (numbered (set segments n p) m) ≡ F (numbered segments m)

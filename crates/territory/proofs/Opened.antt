@@ -11,35 +11,16 @@ use Rattle.segment.specs.declared.space.Space.{Space}
 use Rattle.segment.specs.declared.segment.Role.{Role}
 use Rattle.segment.specs.declared.segment.Role.TheVariants.{Free, Current, From}
 use Rattle.segment.specs.Segments.{Segment, IsSound, is_free, opened}
-use Rattle.segment.proofs.Spots.{zero_at}
+use Rattle.segment.proofs.Spots.{spot_opened}
+use Rattle.segment.proofs.Collected.{IsSound-opened}
 use Rattle.territory.specs.declared.counts.SegmentCounts.{SegmentCounts}
 use Rattle.territory.specs.Pools.{PoolView, numbered, list_of, IsIn, IsOpenFor, AreListed, IsSettled, used_words, is_held, is_cell_space, cells_in, shows_dirty}
 use Rattle.territory.specs.Changes.{IsTaken}
-use Rattle.territory.proofs.Numbers.{each_set}
+use Rattle.territory.proofs.Numbers.{each_set, spot_set}
 use Rattle.territory.proofs.Listing.{listed_moved, free_of}
 use Rattle.territory.proofs.Dirtying.{dirty_same}
 use Rattle.territory.proofs.Opening.{open_changed}
 use Rattle.territory.proofs.Counting.{counted_changed, sum_small}
-
-pub sound_opened : (s : Space) (g words births : ℕ) → 2 * births ≤ words → words ≤ OFFSETS → IsSound (opened s g words births)
-sound_opened s g words births b small =
-    let lw : length (replicate {A = ℕ} words 0) ≡ words = length-replicate {A = ℕ} words 0 in
-    let lb : length (replicate {A = ℕ} births 0) ≡ births = length-replicate {A = ℕ} births 0 in
-    record {
-      small = omega arith;
-      births = omega arith;
-      marks = length-replicate {A = Bool} births false ∙ sym lb;
-      cards = λ h. length-replicate {A = ℕ} (card_count words) 255 ∙ ap card_count (sym lw);
-      clean = λ f d card k. get_or-replicate (card_count words) card 255 0 (omega (arith, length-replicate {A = ℕ} (card_count words) 255));
-      laid = record {
-        top_in = omega arith;
-        even = refl;
-        zero_above = λ i h. zero_at words i 0;
-        loose = λ k h. zero_at births k 0;
-        fit = λ k h. absurd (h (zero_at births k 0));
-        apart = λ j k lt h h'. absurd (h (zero_at births j 0));
-      };
-    }
 
 none_born : (n : ℕ) → count_by (λ birth. not (eqb birth 0)) (replicate n 0) ≡ 0
 none_born zero = refl
@@ -93,11 +74,12 @@ settled_opened p now old n s g words births q lists to e done taken small births
     refl (omega arith) (omega arith) (ap link_count (sym moved_is) ∙ links) (subst EachOnce moved_is once) loose in
     subst (λ v. IsSettled (record p { segments = set p.segments n v; lists = lists; counts = record p.counts { segment_words = p.counts.segment_words + words } })) (sym is) (record {
       count = omega (arith, length-set p.segments n o, t.count);
-      sound = each_set IsSound p.segments n o t.sound (sound_opened s g words births births_in words_in);
+      sound = each_set IsSound p.segments n o t.sound (IsSound-opened s g words births births_in words_in);
       generations = each_set (λ (v : Segment). v.generation < 9) p.segments n o t.generations small;
+      lengths = λ m k x h. spot_set p.segments n o t.lengths (λ j y h'. absurd (let z : None ≡ Some y = sym (spot_opened s g words births j) ∙ h' in cc)) m k x h;
       listed = subst (AreListed (set p.segments n o)) (sym moved_is) moved';
       open_areas = open_changed p.segments p.areas n o t.open_areas within (λ k i. absurd (let c : Free ≡ Current = sym free ∙ i.current in cc));
-      dirty = dirty_same p.segments p.dirty n o t.dirty (sym nothing.dirty) (λ c. cc) within;
+      dirty = dirty_same p.segments p.dirty n o t.dirty (sym nothing.dirty);
       counted = counted_changed p.segments p.areas p.counts (record p.counts { segment_words = p.counts.segment_words + words }) n o words 0 t.counted within
           (omega (arith, nothing.words)) (sym nothing.held) (omega (arith, nothing.cells, opened_cells s g words births)) refl refl refl (omega arith);
     })

@@ -109,6 +109,7 @@ settled_area p now old s g n k area more areas e done o ks kin gin is set_is mor
       count = t.count;
       sound = t.sound;
       generations = t.generations;
+      lengths = t.lengths;
       listed = t.listed;
       open_areas = open_set p.segments p.areas area n t.open_areas (omega arith) fits;
       dirty = t.dirty;

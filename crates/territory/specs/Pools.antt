@@ -1,5 +1,5 @@
 -- What a territory keeps of its segments: their numbers in lists, the open areas, the dirty ones and four counters.
-use Rattle.std.specs.Prelude.{◌≡◌, ◌≢◌, ℕ, zero, suc, ◌+◌, ◌-◌, ◌*◌, ◌/◌, ◌%◌, ◌<◌, ◌≤◌, ◌==◌, ◌&&◌, Bool, true, false, not, if◌then◌else◌, nat_le, List, [], ◌∷◌, ◌++◌, length, map, is_some, slice_index, slice_index_or, slice_get, Option, Some, None}
+use Rattle.std.specs.Prelude.{◌≡◌, ◌≢◌, ℕ, zero, suc, ◌+◌, ◌-◌, ◌*◌, ◌/◌, ◌%◌, ◌<◌, ◌≤◌, ◌==◌, ◌&&◌, Bool, true, false, not, if◌then◌else◌, nat_le, List, [], ◌∷◌, ◌++◌, length, map, is_some, slice_index_or, slice_get, Option, Some, None}
 use Rattle.std.specs.List.{sum_by, count_by}
 use Rattle.std.specs.Ordering.{nat_cmp}
 use Rattle.std.specs.FinMap.{FinMap, from_entries}
@@ -9,10 +9,11 @@ use Rattle.segment.specs.declared.space.Space.{Space}
 use Rattle.segment.specs.declared.space.Space.TheVariants as space
 use Rattle.segment.specs.declared.segment.Role.{Role}
 use Rattle.segment.specs.declared.segment.Role.TheVariants.{Free, Current, From}
-use Rattle.segment.specs.Layout.{space_index}
+use Rattle.segment.specs.Layout.{space_index, HasLength}
 use Rattle.segment.specs.Segments.{Segment, Start, IsSound, is_free, vacant, spot}
 use Rattle.territory.specs.declared.counts.SegmentCounts.{SegmentCounts}
-use Rattle.territory.specs.Territories.{SegmentView}
+use Rattle.territory.specs.declared.territory.Targets.{Targets}
+use Rattle.territory.specs.Territories.{SegmentView, TerritoryView}
 
 pub record PoolView : Type 0 where
   pub segments : List Segment
@@ -67,10 +68,6 @@ pub record AreOpen (segments : List Segment) (areas : List (Option ℕ)) : Type 
 abbrev pub shows_dirty : Segment → Bool
 shows_dirty p = if is_free p.role then false else p.is_dirty
 
--- some card is not clean
-abbrev pub HasMark : Segment → Type 0
-HasMark p = (card : ℕ) × (card < length p.cards) × (slice_index p.cards card ≢ 255)
-
 -- Chain 1 has the numbers of the segments in use with a card that is not clean.
 pub record AreDirty (segments : List Segment) (dirty : List (List ℕ)) : Type 0 where
   pub chains : length dirty ≡ 2
@@ -78,7 +75,6 @@ pub record AreDirty (segments : List Segment) (dirty : List (List ℕ)) : Type 0
   pub each_once : EachOnce dirty
   pub shown : (n : ℕ) → IsIn dirty 1 n → shows_dirty (numbered segments n) ≡ true
   pub listed : (n : ℕ) → shows_dirty (numbered segments n) ≡ true → IsIn dirty 1 n
-  pub marked : (n : ℕ) → shows_dirty (numbered segments n) ≡ true → HasMark (numbered segments n)
 
 -- ---- the counters
 
@@ -108,6 +104,7 @@ pub record IsSettled (p : PoolView) : Type 0 where
   pub count : length p.segments ≤ SEGMENTS
   pub sound : (n : ℕ) → IsSound (numbered p.segments n)
   pub generations : (n : ℕ) → (numbered p.segments n).generation < 9
+  pub lengths : (n k : ℕ) (x : Start) → spot (numbered p.segments n) k ≡ Some x → HasLength x.kind x.length
   pub listed : AreListed p.segments p.lists
   pub open_areas : AreOpen p.segments p.areas
   pub dirty : AreDirty p.segments p.dirty
@@ -150,3 +147,15 @@ seen p =
       was_held = p.was_held;
       cards = p.cards;
     })
+
+-- what contracts see of a territory of these parts
+abbrev pub territory_view : ℕ → PoolView → Targets → TerritoryView
+territory_view thread p targets = record {
+  thread = thread;
+  starts = starts_of (thread * SEGMENTS) p.segments;
+  segments = map seen p.segments;
+  areas = p.areas;
+  lists = p.lists;
+  dirty = chain_of p.dirty 1;
+  targets = targets;
+}

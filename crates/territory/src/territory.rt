@@ -23,17 +23,16 @@ pub struct Territory {
 }
 
 impl Model for Territory {
-    ghost use Rattle.std.specs.Prelude.{◌*◌, ◌<◌, map};
-    ghost use Rattle.gc_words.specs.declared.address.TheConstants.{SEGMENTS, THREADS};
-    ghost use Rattle.seg_chain.specs.Lists.{chain_of};
+    ghost use Rattle.std.specs.Prelude.{◌<◌};
+    ghost use Rattle.gc_words.specs.declared.address.TheConstants.{THREADS};
     ghost use Rattle.territory.specs.Territories.{TerritoryView, coded_territory};
-    ghost use Rattle.territory.specs.Pools.{IsSettled, starts_of, seen};
+    ghost use Rattle.territory.specs.Pools.{IsSettled, territory_view};
 
     ghost Value = { TerritoryView };
 
     ghost coded = { coded_territory };
 
-    ghost view = { λ a. record { thread = a.thread; starts = starts_of (a.thread * SEGMENTS) a.pool.segments; segments = map seen a.pool.segments; areas = a.pool.areas; lists = a.pool.lists; dirty = chain_of a.pool.dirty 1; targets = a.targets } };
+    ghost view = { λ a. territory_view a.thread a.pool a.targets };
 
     ghost invariant = { λ a. (a.thread < THREADS) × IsSettled a.pool };
 }

@@ -1,7 +1,7 @@
 //! Objects in the segments of a pool.
 
 ghost use Rattle.std.specs.Prelude.{◌≡◌, ◌≢◌, ◌<◌, cond, length, false, slice_set};
-ghost use Rattle.segment.specs.Layout.{size_of};
+ghost use Rattle.segment.specs.Layout.{size_of, skip_of, kind_of, length_of, HasLength};
 ghost use Rattle.segment.specs.Segments.{HasRoom, is_free, grown};
 ghost use Rattle.territory.specs.Pools.{IsSettled, numbered, is_cell_space};
 
@@ -27,6 +27,9 @@ impl Pool {
         requires room { HasRoom (numbered self.old.segments n) size }
         requires size_is { size ≡ size_of (numbered self.old.segments n).space first }
         requires born { 0 < birth }
+        requires bare { skip_of (numbered self.old.segments n).space ≡ 0 → first ≡ 0 }
+        requires has_length { let space = (numbered self.old.segments n).space in
+            HasLength (kind_of space first) (length_of space first) }
         ensures settled { IsSettled self.new }
         ensures offset { result ≡ (numbered self.old.segments n).top }
         ensures segments { self.new.segments ≡ slice_set self.old.segments n (grown (numbered self.old.segments n) first size birth) }
