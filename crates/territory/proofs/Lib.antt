@@ -10,3 +10,5 @@ pub mod Growing
 pub mod Opened
 pub mod Roomy
 pub mod Grown
+pub mod Reading
+pub mod Allocated

@@ -1,17 +1,18 @@
 -- What contracts see of a territory.
-use Rattle.std.specs.Prelude.{◌≡◌, ◌≢◌, ℕ, ◌+◌, ◌*◌, ◌/◌, ◌<◌, ◌≤◌, ◌==◌, Bool, true, false, if◌then◌else◌, nat_lt, List, [], ◌∷◌, length, min, replicate, slice_get, slice_index, slice_index_or, slice_set, ◌⊎◌, Option, Some, None, refl}
+use Rattle.std.specs.Prelude.{◌≡◌, ◌≢◌, ℕ, ◌+◌, ◌*◌, ◌/◌, ◌<◌, ◌≤◌, ◌==◌, Bool, true, false, if◌then◌else◌, nat_lt, List, [], ◌∷◌, length, min, replicate, slice_get, slice_index, slice_index_or, slice_set, ◌++◌, ◌%◌, ◌⊎◌, Option, Some, None, IsSome, IsNone, IfSome, refl}
+use Rattle.std.specs.List.{list_any}
 use Rattle.std.specs.Ordering.{nat_cmp}
 use Rattle.std.specs.FinMap.{FinMap, code, get, insert, empty}
 use Rattle.std.specs.Coded.{Coded, code_by, coded×, coded_ℕ, coded_bool, coded_list, coded_option}
 use Rattle.gc_words.specs.declared.value.Value.TheVariants as value
 use Rattle.gc_words.specs.Layout.{segment_of, offset_of}
 use Rattle.gc_words.specs.Word.{value_of}
-use Rattle.cards.specs.Cards.{card_of}
-use Rattle.seg_chain.specs.Lists.{chain_of, link_count, with_last}
+use Rattle.cards.specs.Cards.{card_of, card_count}
+use Rattle.seg_chain.specs.Lists.{chain_of, link_count, with_last, moved}
 use Rattle.trace_types.specs.declared.kind.Kind.{Kind}
 use Rattle.trace_types.specs.declared.kind.Kind.TheVariants as kind
 use Rattle.segment.specs.declared.space.Space.{Space}
-use Rattle.segment.specs.Layout.{skip_of, space_index, words_after}
+use Rattle.segment.specs.Layout.{skip_of, space_of, space_index, words_after, HasLength}
 use Rattle.segment.specs.Segments.{Start}
 use Rattle.territory.specs.declared.territory.Targets.{Targets}
 use Rattle.territory.specs.Codes.{coded_space, coded_start}
@@ -108,6 +109,17 @@ fresh_start kind length generation birth = record {
   words = replicate (words_after kind length) 0;
 }
 
+-- the words that an object takes: its header, if it has one, its words, and one more for an even number
+abbrev pub size_for : Kind → ℕ → ℕ
+size_for kind length = (skip_of (space_of kind) + words_after kind length + 1) / 2 * 2
+
+-- what each start has: a length of its kind, the words of this length, a generation and a birth
+pub record IsShaped (x : Start) : Type 0 where
+  pub has_length : HasLength x.kind x.length
+  pub its_words : length x.words ≡ words_after x.kind x.length
+  pub generation_in : x.generation ≤ 8
+  pub born : 0 < x.birth
+
 -- the starts with one word of one start changed
 abbrev pub put_start : FinMap nat_cmp Start → ℕ → Option Start → ℕ → ℕ → FinMap nat_cmp Start
 put_start starts a None index w = starts
@@ -146,13 +158,49 @@ AreCardsSound generation_at t =
     (a index b h : ℕ) (x : Start) → get t.starts a ≡ Some x → Refers x index b → generation_at b ≡ Some h → h < x.generation
     → card_byte t a index ≤ h
 
+-- `after` tells the generations that `before` tells, and that of a, to which no start refers
+pub record IsToldMore (before after : ℕ → Option ℕ) (t : TerritoryView) (a : ℕ) : Type 0 where
+  pub others : (b : ℕ) → b ≢ a → after b ≡ before b
+  pub alone : (b index : ℕ) (x : Start) → get t.starts b ≡ Some x → Refers x index a → ⊥
+
 -- a word of a start of generation g that refers to generation `refers`, or 255, gets its card marked
 abbrev pub needs_mark : Bool → ℕ → ℕ → Bool
 needs_mark is_from g refers = if is_from then nat_lt refers 255 else nat_lt refers g
 
--- the segment with the card of a word at most this generation
-abbrev pub with_mark : SegmentView → ℕ → ℕ → SegmentView
-with_mark s word generation = record s { cards = slice_set s.cards (card_of word) (min (slice_index s.cards (card_of word)) generation) }
+-- a segment as it is after a word of the start at a was put that refers to generation `refers`
+abbrev pub with_card : ℕ → ℕ → ℕ → SegmentView → SegmentView
+with_card a index refers s =
+    let card = card_of (place_of s a index) in
+    if needs_mark s.is_from s.generation refers then record s { cards = slice_set s.cards card (min (slice_index s.cards card) refers) } else s
+
+abbrev pub marks : Option SegmentView → ℕ → Bool
+marks None refers = false
+marks (Some s) refers = needs_mark s.is_from s.generation refers
+
+-- the numbers with n last, where it was not there
+abbrev pub with_dirty : List ℕ → ℕ → List ℕ
+with_dirty dirty n = if list_any (λ m. m == n) dirty then dirty else dirty ++ n ∷ []
+
+-- The segments in use stay as they are, and so do the starts and areas: what a refused call leaves.
+pub record IsAsBefore (old new : TerritoryView) : Type 0 where
+  pub starts : new.starts ≡ old.starts
+  pub segments : (n : ℕ) → segment_at new n ≡ segment_at old n
+  pub areas : new.areas ≡ old.areas
+
+-- a new segment
+abbrev pub fresh_segment : Space → ℕ → ℕ → SegmentView
+fresh_segment s g words = record { space = s; generation = g; words = words; is_from = false; was_held = false; cards = replicate (card_count words) 255 }
+
+-- Segment n gets an object of this size. If it was in use it was the open one of its area, and is as before; else
+-- it has the next number, and is new.
+pub record IsPlaced (old new : TerritoryView) (s : Space) (g size n : ℕ) : Type 0 where
+  pub used : IsSome (segment_at old n)
+      → (segment_at new n ≡ segment_at old n) × (new.lists ≡ old.lists) × (slice_get old.areas (area_of s g) ≡ Some (Some n)) × (is_large size ≡ false)
+  pub fresh : IsNone (segment_at old n)
+      → (segment_at new n ≡ Some (fresh_segment s g (words_for size))) × IsNextNumber old.lists n × (new.lists ≡ moved (with_number old.lists n) 0 (1 + g) n)
+  pub fits : IfSome (segment_at new n) (λ v. (v.space ≡ s) × (v.generation ≡ g) × (v.is_from ≡ false))
+  pub others : (m : ℕ) → m ≢ n → segment_at new m ≡ segment_at old m
+  pub areas : new.areas ≡ areas_for old.areas (area_of s g) size n
 
 abbrev pub no_territory : ℕ → TerritoryView
 no_territory thread = record {

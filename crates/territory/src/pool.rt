@@ -1,7 +1,8 @@
 //! The segments of a territory by number, and what is kept of them.
 
-ghost use Rattle.std.specs.Prelude.{◌≡◌, [], replicate, None, IfOk};
-ghost use Rattle.territory.specs.Pools.{IsSettled};
+ghost use Rattle.std.specs.Prelude.{◌≡◌, ◌<◌, ◌/◌, ◌↔◌, [], length, replicate, None, IfOk, IsTrue};
+ghost use Rattle.segment.specs.Segments.{IsStart};
+ghost use Rattle.territory.specs.Pools.{IsSettled, numbered};
 
 mod numbers;
 mod objects;
@@ -72,5 +73,20 @@ impl Pool {
             dirty,
             counts,
         })
+    }
+
+    /// The segment of a number.
+    pub fn segment(&self, n: usize) -> &Segment
+        requires { n < length self.now.segments }
+        ensures { result.now ≡ numbered self.now.segments n }
+    {
+        &self.segments[n]
+    }
+
+    /// Whether something starts at the offset, in words, of the segment of a number.
+    pub fn is_start(&self, n: usize, offset: usize) -> bool
+        ensures { IsTrue result ↔ IsStart (numbered self.now.segments n) (offset / 2) }
+    {
+        n < self.segments.len() && self.segments[n].is_start(offset)
     }
 }
