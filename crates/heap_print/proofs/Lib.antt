@@ -1,7 +1,7 @@
 pub mod Numbering
 pub mod Renamed
 pub mod Reading
-pub mod Contents
+pub mod Printed
 pub mod Lines
 pub mod Sums
 pub mod Counted

@@ -14,7 +14,7 @@ use Rattle.heap_store.specs.Starts.{Starts, is_object, birth_of, read_word, obje
 use Rattle.heap_store.specs.Graphs.{IsInGraph}
 use Rattle.heap_print.specs.Shown.{reference, word_value, birth_at, renamed, IsReference, shown_words, word_text, spaced_byte, shown_text, line_text}
 use Rattle.heap_print.proofs.Reading.{read_words-renamed, value_text-renamed, IsNamed, named_word, place_of_reference}
-use Rattle.heap_print.proofs.Contents.{contents_read, shown_there, no_guardian}
+use Rattle.heap_print.proofs.Printed.{contents_read, shown_there, no_guardian}
 
 bytes_text : (numbers bytes : List ℕ) (k : Kind) → has_bytes k ≡ true →
     flat_map (content_text numbers k) (map (λ b. values.fixnum (pos b)) bytes) ≡ flat_map spaced_byte bytes

@@ -1,7 +1,9 @@
 //! The printed graph of a value.
 #![tactic(auto)]
 
+mod contents;
 mod numbers;
 mod text;
 
+pub use contents::{number_fields};
 pub use numbers::Numbers;
