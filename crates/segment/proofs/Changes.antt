@@ -65,6 +65,9 @@ IsSound-put p k index w h bk i =
       marks = h.marks;
       cards = λ some. rw l (h.cards some);
       clean = h.clean;
+      dirty = h.dirty;
+      free = h.free;
+      unheld = h.unheld;
       laid = IsLaid-put p k index w h.laid bk i;
     }
 
@@ -122,5 +125,8 @@ IsSound-grown p first size birth h is room =
       marks = h.marks ∙ sym b;
       cards = λ some. rw l (h.cards (omega (arith, b)));
       clean = h.clean;
+      dirty = h.dirty;
+      free = h.free;
+      unheld = h.unheld;
       laid = IsLaid-grown p first size birth h.laid is room;
     }

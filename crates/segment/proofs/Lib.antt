@@ -2,3 +2,5 @@ pub mod Sizes
 pub mod Changes
 pub mod Spots
 pub mod Calls
+pub mod Collected
+pub mod Scans

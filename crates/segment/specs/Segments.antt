@@ -1,7 +1,8 @@
 -- What contracts see of a segment, and which objects start in it.
 use Rattle.std.specs.Prelude.{◌≡◌, ◌≢◌, ℕ, ◌+◌, ◌*◌, ◌/◌, ◌%◌, ◌<◌, ◌≤◌, ◌==◌, Bool, true, false, if◌then◌else◌, List, [], ◌∷◌, length, slice_index, slice_index_or, slice_set, take, drop, replicate, Option, Some, None, min}
 use Rattle.gc_words.specs.declared.address.TheConstants.{OFFSETS}
-use Rattle.cards.specs.Cards.{card_of, card_count}
+use Rattle.cards.specs.declared.table.TheConstants.{WORDS_PER_CARD}
+use Rattle.cards.specs.Cards.{card_of, card_count, IsDirty}
 use Rattle.trace_types.specs.declared.kind.Kind.{Kind}
 use Rattle.segment.specs.declared.space.Space.{Space}
 use Rattle.segment.specs.declared.space.Space.TheVariants as space
@@ -79,14 +80,17 @@ pub record IsLaid (p : Segment) : Type 0 where
   pub fit : (k : ℕ) → slice_index p.births k ≢ 0 → 2 * k + size_at p k ≤ p.top
   pub apart : (j k : ℕ) → j < k → slice_index p.births j ≢ 0 → slice_index p.births k ≢ 0 → 2 * j + size_at p j ≤ 2 * k
 
--- Memory for a start each two words at most, a mark for each start and a card for each 64 words. Where a segment in
--- use is not dirty, its cards are clean.
+-- Memory for a start each two words at most, a mark for each start and a card for each 64 words. A segment in use is
+-- dirty where some card is not clean, and outside a collection it holds nothing.
 pub record IsSound (p : Segment) : Type 0 where
   pub small : length p.words ≤ OFFSETS
   pub births : 2 * length p.births ≤ length p.words
   pub marks : length p.marks ≡ length p.births
   pub cards : 0 < length p.births → length p.cards ≡ card_count (length p.words)
   pub clean : is_free p.role ≡ false → p.is_dirty ≡ false → (card : ℕ) → card < length p.cards → slice_index p.cards card ≡ 255
+  pub dirty : p.is_dirty ≡ true → (card : ℕ) × (card < length p.cards) × (slice_index p.cards card ≢ 255)
+  pub free : is_free p.role ≡ true → p.is_dirty ≡ false
+  pub unheld : p.role ≡ Current → (k : ℕ) → slice_index_or p.marks k false ≡ false
   pub laid : IsLaid p
 
 -- ---- what calls make of a segment
@@ -167,3 +171,46 @@ marked_at p word generation = record p {
   is_dirty = true;
   cards = slice_set p.cards (card_of word) (min (slice_index p.cards (card_of word)) generation);
 }
+
+-- set aside for a collection
+abbrev pub set_aside : Segment → Segment
+set_aside p = record p { role = From }
+
+-- with start k held at its place by the collection that goes on
+abbrev pub held_at : Segment → ℕ → Segment
+held_at p k = record p { marks = slice_set p.marks k true }
+
+-- the births with a mark
+abbrev pub marked_births : List ℕ → List Bool → List ℕ
+marked_births (birth ∷ births) (mark ∷ marks) = (if mark then birth else 0) ∷ marked_births births marks
+marked_births births marks = births
+
+-- in use again after a collection, with the held starts alone, and in this generation
+abbrev pub kept_marked : Segment → ℕ → Segment
+kept_marked p generation = record p {
+  generation = generation;
+  role = Current;
+  was_held = true;
+  births = marked_births p.births p.marks;
+  marks = replicate (length p.marks) false;
+}
+
+-- the same start in another generation
+abbrev pub in_generation : ℕ → Option Start → Option Start
+in_generation generation None = None
+in_generation generation (Some x) = Some (record x { generation = generation })
+
+-- what then starts at offset 2 k: what was held there
+abbrev pub kept_spot : Segment → ℕ → ℕ → Option Start
+kept_spot p generation k = if slice_index_or p.marks k false then in_generation generation (spot p k) else None
+
+-- ---- the search for starts
+
+-- what starts at k ends past the first word of the card
+abbrev pub EndsPast : Segment → ℕ → ℕ → Type 0
+EndsPast p card k = WORDS_PER_CARD * card < 2 * k + size_at p k
+
+-- start k has a word, its header counted, under a card whose byte is at most the limit
+abbrev pub HasDirtyWord : Segment → ℕ → ℕ → Type 0
+HasDirtyWord p limit k =
+    IsStart p k × ((word : ℕ) × (2 * k ≤ word) × (word < 2 * k + size_at p k) × IsDirty p.cards limit (card_of word))

@@ -1,11 +1,13 @@
 //! A segment: its making, its reading, and new objects and words in it.
 
-ghost use Rattle.std.specs.Prelude.{◌≡◌, ◌≢◌, ◌+◌, ◌/◌, ◌*◌, ◌<◌, ◌≤◌, ◌↔◌, length, slice_index, replicate, IfOk, OnOk, OnErr, IsTrue};
+ghost use Rattle.std.specs.Prelude.{◌≡◌, ◌≢◌, ◌+◌, ◌/◌, ◌*◌, ◌<◌, ◌≤◌, ◌↔◌, false, length, slice_index, replicate, IfOk, OnOk, OnErr, IsTrue};
 ghost use Rattle.gc_words.specs.declared.address.TheConstants.{OFFSETS};
 ghost use Rattle.segment.specs.Layout.{size_of};
-ghost use Rattle.segment.specs.Segments.{IsStart, HasRoom, object_at, grown, put_in};
+ghost use Rattle.segment.specs.Segments.{IsStart, HasRoom, object_at, place_in, grown, put_in, marked_at};
 
+mod collecting;
 mod opening;
+mod scan;
 
 use crate::layout::{kind_of, length_of};
 use crate::space::Space;
@@ -154,6 +156,22 @@ impl Segment {
         let skip = self.space.skip();
         let at = 2 * k + skip + index;
         self.words[at] = word;
+    }
+
+    /// Notes on the card of a word that it refers to this generation, and says whether the segment was not
+    /// dirty before.
+    pub fn mark(&mut self, k: usize, index: usize, generation: u8) -> bool
+        requires start { IsStart self.old k }
+        requires index_in { index < length (object_at self.old k).words }
+        requires generation_in { generation < 255 }
+        ensures before { IsTrue result ↔ (self.old.is_dirty ≡ false) }
+        ensures after { self.new ≡ marked_at self.old (place_in self.old k index) generation }
+    {
+        let skip = self.space.skip();
+        self.cards.mark(2 * k + skip + index, generation);
+        let was_clean = !self.is_dirty;
+        self.is_dirty = true;
+        was_clean
     }
 
     /// Makes an object at the top, and gives its offset: `first` is its first word, and all words after it

@@ -1,9 +1,9 @@
 //! A segment's memory: taken where it is opened, and given back.
 
-ghost use Rattle.std.specs.Prelude.{◌≡◌, ℕ, ◌*◌, ◌<◌, ◌≤◌, true, false, length, vec_len, slice_index, replicate, IfOk, OnOk, OnErr};
+ghost use Rattle.std.specs.Prelude.{◌≡◌, ℕ, ◌*◌, ◌<◌, ◌≤◌, true, false, length, vec_len, slice_index, replicate, None, IfOk, OnOk, OnErr};
 ghost use Rattle.gc_words.specs.declared.address.TheConstants.{OFFSETS};
 ghost use Rattle.cards.specs.Cards.{card_count};
-ghost use Rattle.segment.specs.Segments.{is_free, vacant, opened, renewed, emptied, given_back};
+ghost use Rattle.segment.specs.Segments.{is_free, vacant, opened, renewed, emptied, given_back, spot};
 
 use super::{Role, Segment};
 use crate::space::Space;
@@ -44,6 +44,7 @@ impl Segment {
         requires some { 0 < births }
         requires words_in { words ≤ OFFSETS }
         ensures ok { OnOk result (self.new ≡ opened space generation words births) }
+        ensures starts { OnOk result ((k : ℕ) → spot self.new k ≡ None) }
         ensures err { OnErr result (self.new ≡ self.old) }
     {
         self.prepare(words, births)?;
@@ -108,7 +109,8 @@ impl Segment {
 
     /// Makes the segment free. The memory of a large object goes at once, any other stays for the next use.
     pub fn give_back(&mut self)
-        ensures { self.new ≡ given_back self.old }
+        ensures after { self.new ≡ given_back self.old }
+        ensures starts { (k : ℕ) → spot self.new k ≡ None }
     {
         self.role = Role::Free;
         self.was_held = false;

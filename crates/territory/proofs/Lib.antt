@@ -1,0 +1,14 @@
+pub mod Numbers
+pub mod Listing
+pub mod Dirtying
+pub mod Opening
+pub mod Counting
+pub mod Entries
+pub mod Slots
+pub mod Present
+pub mod Growing
+pub mod Opened
+pub mod Roomy
+pub mod Grown
+pub mod Reading
+pub mod Allocated

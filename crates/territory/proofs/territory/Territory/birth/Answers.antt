@@ -1,0 +1,16 @@
+use Rattle.territory.proofs.Reading.{reach_segment, at, value, shaped, length_fits}
+use Rattle.territory.proofs.territory.Territory.birth.Goals as goal
+use Rattle.segment.specs.Segments.{Start}
+use Rattle.std.proofs.Common.{arith}
+
+pub segment-requires : goal.segment-requires
+segment-requires c = reach_segment _ _ _ _ _ _ c.self.invariant.1 c.self.view_is c.requires c.place-segment.ensures.segment
+
+pub birth-requires : goal.birth-requires
+birth-requires c = (at _ _ _ _ _ _ _ _ c.self.invariant.1 c.self.view_is c.requires c.place-segment.ensures.segment c.place-segment.ensures.start c.segment.ensures).starts
+
+pub returns-clause-value : goal.returns-clause-value
+returns-clause-value c = value (λ (x : Start). x.birth) _ _ _ _ _ _ _ (at _ _ _ _ _ _ _ _ c.self.invariant.1 c.self.view_is c.requires c.place-segment.ensures.segment c.place-segment.ensures.start c.segment.ensures) c.birth.ensures
+
+pub returns-clause-shaped : goal.returns-clause-shaped
+returns-clause-shaped c = shaped _ _ _ _ _ c.self.invariant.1 c.self.view_is c.requires

@@ -1,0 +1,4 @@
+pub mod Codes
+pub mod Territories
+pub mod Pools
+pub mod Changes
