@@ -8,3 +8,4 @@ pub mod Setting
 pub mod Opening
 pub mod Operands
 pub mod Commands
+pub mod Getting

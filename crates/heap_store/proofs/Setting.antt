@@ -103,6 +103,12 @@ module _ (f : Starts) where
 
 -- ---- a field changed
 
+-- the object of the graph that starts at a place, where it is no guardian
+pub object_found : (h : HeapView) (s : State) → Stands h s → (a : ℕ) (x : Start) → starts_of h a ≡ Some x → is_cell x.kind ≡ false → is_guardian x.kind ≡ false → object_at s.graph x.birth ≡ Some (object_of (starts_of h) a x [])
+object_found h s stands a x there lacks plain =
+    let found = stands.graph.objects a x there lacks in
+    found.found ∙ ap (λ q. Some (object_of (starts_of h) a x q)) (no_queue (starts_of h) a x found.cells found.queue plain found.has_queue)
+
 module _ (h : HeapView) (s : State) (stands : Stands h s) (old new : TerritoryView) (a : ℕ) (x : Start) (words : List ℕ) (index : ℕ) (v : values.Value) where
   abbrev before : Starts
   before = starts_of h
@@ -115,11 +121,6 @@ module _ (h : HeapView) (s : State) (stands : Stands h s) (old new : TerritoryVi
 
   abbrev changed_start : Start
   changed_start = record x { words = words }
-
-  pub object_found : before a ≡ Some x → is_cell x.kind ≡ false → is_guardian x.kind ≡ false → object_at s.graph x.birth ≡ Some (object_of before a x [])
-  object_found there lacks plain =
-      let found = stands.graph.objects a x there lacks in
-      found.found ∙ ap (λ q. Some (object_of before a x q)) (no_queue before a x found.cells found.queue plain found.has_queue)
 
   pub field_changed : slice_get h.territories (thread_of a) ≡ Some old → IsStartChanged old new a changed_start → get old.starts a ≡ Some x
       → is_cell x.kind ≡ false → is_guardian x.kind ≡ false → IsLaidOut before changed_start
@@ -135,7 +136,7 @@ module _ (h : HeapView) (s : State) (stands : Stands h s) (old new : TerritoryVi
       (λ none. absurd (let n : None ≡ Some x = sym none ∙ here in cc))
       (omega arith) stands.last (stands.born a x here)
       (subst (λ o. IsWellFormedTo h.last (with_object s x.birth o)) (sym same_object)
-      (field_set_well_formed h.last s stands.well_formed x.birth (object_of before a x []) index v (object_found here lacks plain) fits named)))
+      (field_set_well_formed h.last s stands.well_formed x.birth (object_of before a x []) index v (object_found h s stands a x here lacks plain) fits named)))
     where
       here : before a ≡ Some x
       here = start_before h.territories (thread_of a) old new found stands.territories a changed_start changed ∙ there

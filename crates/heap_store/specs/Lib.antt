@@ -9,3 +9,4 @@ pub mod Calls
 pub mod Registries
 pub mod Opening
 pub mod Parts
+pub mod Fields

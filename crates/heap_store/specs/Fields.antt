@@ -1,0 +1,46 @@
+-- The fields of an object in the words of its start.
+use Rattle.std.specs.Prelude.{◌≡◌, ℕ, pos, false, Bool, true, not, ◌&&◌, nat_lt, List, [], slice_index, slice_index_or, Option, Some, None, Ok, Err, if◌then◌else◌}
+use Rattle.gc_words.specs.declared.value.Value.{Value}
+use Rattle.gc_words.specs.declared.value.Value.TheVariants as word
+use Rattle.gc_words.specs.Word.{value_of}
+use Rattle.trace_types.specs.declared.fault.Fault.{Fault}
+use Rattle.trace_types.specs.declared.fault.Fault.TheVariants.{WrongKind, BadIndex}
+use Rattle.trace_types.specs.Values.{is_guardian, has_bytes}
+use Rattle.trace_types.specs.States.{State, register_value}
+use Rattle.trace_types.specs.Steps.{fielded_of}
+use Rattle.segment.specs.Segments.{Start}
+use Rattle.heap_store.specs.Starts.{is_cell, byte_at, object_of}
+use Rattle.heap_store.specs.HeapView.{HeapView, starts_of}
+use Rattle.heap_store.specs.Stands.{Stands}
+
+-- the place of the object that the value is, where it is one
+abbrev pub place_in : Value → Option ℕ
+place_in (word.Object a) = Some a
+place_in _ = None
+
+-- the register holds the object at this place, which is of a kind with fields
+pub record IsFielded (h : HeapView) (register a : ℕ) : Type 0 where
+  pub start : Start
+  pub holds : slice_index_or h.registers register word.Nil ≡ word.Object a
+  pub here : starts_of h a ≡ Some start
+  pub no_cell : is_cell start.kind ≡ false
+  pub no_guardian : is_guardian start.kind ≡ false
+
+-- the register holds nothing of a kind with fields
+abbrev pub HasNoFields : HeapView → ℕ → Type 0
+HasNoFields h register = (s : State) → Stands h s → fielded_of s (register_value s register) ≡ Err WrongKind
+
+abbrev pub or_nil : Option Value → Value
+or_nil None = word.Nil
+or_nil (Some v) = v
+
+-- the field of an index: a byte is a fixnum
+abbrev pub field_in : Option Start → ℕ → Value
+field_in None index = word.Nil
+field_in (Some x) index =
+    if has_bytes x.kind then word.Fixnum (pos (byte_at x.words index)) else or_nil (value_of (slice_index x.words index))
+
+-- whether the value is a number from 0 to 255
+abbrev pub is_byte_word : Value → Bool
+is_byte_word (word.Fixnum (pos n)) = nat_lt n 256
+is_byte_word _ = false
