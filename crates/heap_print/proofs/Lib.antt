@@ -5,3 +5,4 @@ pub mod Printed
 pub mod Lines
 pub mod Sums
 pub mod Counted
+pub mod Chained

@@ -47,13 +47,13 @@ text_shown f a x closed cells queue numbers all there read = by (has_bytes x.kin
         ∙ ap (λ b. cond b (flat_map spaced_byte (bytes_of x.words x.length)) (flat_map (word_text numbers) (shown_words f x cells))) (sym e)
 
 pub line_shown : (f : Starts) (graph : values.Graph) (a : ℕ) (x : Start) (g : IsInGraph f graph a x) → IsClosed f → f a ≡ Some x → IsTrue (is_object (Some x)) →
+    IsReference f (reference a) →
     (numbers : List ℕ) → AllByRecursion (IsReference f) numbers →
     object_line (map (birth_at f) numbers) x.birth (Some (object_of f a x g.queue)) ≡ line_text f numbers (reference a) x g.cells
-line_shown f graph a x g closed here object numbers all =
+line_shown f graph a x g closed here object refers numbers all =
     let words = shown_words f x g.cells in
     let there = shown_there f a x g.cells g.queue (closed.laid_out a x here) g.has_queue object in
     let place : f (reference a / 8) ≡ Some x = ap f (place_of_reference a) ∙ here in
-    let refers : IsReference f (reference a) = record { form = ap reference (sym (place_of_reference a)); there = subst (λ o. IsTrue (is_object o)) (sym place) object } in
     let named : value_text (map (birth_at f) numbers) (values.object x.birth) ≡ value_text numbers (values.object (reference a)) =
         ap (λ (o : Option Start). value_text (map (birth_at f) numbers) (values.object (birth_of o))) (sym place)
         ∙ value_text-renamed f closed numbers all (values.object (reference a)) refers in

@@ -8,6 +8,7 @@ use Rattle.trace_types.specs.Printing.{value_text, number_of}
 use Rattle.gc_words.specs.declared.value.Value.{Value}
 use Rattle.gc_words.specs.declared.value.Value.TheVariants.{Fixnum, Nil, True, False, Bwp, Object}
 use Rattle.gc_words.specs.Word.{value_of}
+use Rattle.gc_words.proofs.WordLaws.{word_of-object}
 use Rattle.segment.specs.Segments.{Start}
 use Rattle.heap_store.specs.Starts.{Starts, birth_of, is_object, is_cell, read, read_option, read_word, IsThere, IsThereOption, IsWordThere, IsClosed}
 use Rattle.heap_print.specs.Shown.{reference, by_word, by_word_option, word_value, birth_at, renamed, IsReference}
@@ -65,23 +66,28 @@ value_text-renamed f closed numbers all values.bwp h = refl
 value_text-renamed f closed numbers all (values.object w) h =
     ap (λ n. codes "#" ++ decimal n) (number_of-map (IsReference f) (birth_at f) (references_apart f closed) numbers w all h)
 
-pub named_value : (f : Starts) (v : Value) → IsThere f v → IsNamed f (by_word v)
-named_value f (Fixnum n) h = tt
-named_value f Nil h = tt
-named_value f True h = tt
-named_value f False h = tt
-named_value f Bwp h = tt
-named_value f (Object a) h = record {
+pub named_place : (f : Starts) (a : ℕ) → value_of (reference a) ≡ Some (Object a) → IsTrue (is_object (f a)) → IsReference f (reference a)
+named_place f a round h = record {
   form = ap reference (sym (place_of_reference a));
+  value = round ∙ ap (λ b. Some (Object b)) (sym (place_of_reference a));
   there = subst (λ b. IsTrue (is_object (f b))) (sym (place_of_reference a)) h;
 }
 
-named_option : (f : Starts) (o : Option Value) → IsThereOption f o → IsNamed f (by_word_option o)
-named_option f None h = absurd h
-named_option f (Some v) h = named_value f v h
+-- the value of a word
+pub named_value : (f : Starts) (w : ℕ) (v : Value) → value_of w ≡ Some v → IsThere f v → IsNamed f (by_word v)
+named_value f w (Fixnum n) e h = tt
+named_value f w Nil e h = tt
+named_value f w True e h = tt
+named_value f w False e h = tt
+named_value f w Bwp e h = tt
+named_value f w (Object a) e h = named_place f a (ap value_of (word_of-object w a e) ∙ e) h
 
 pub named_word : (f : Starts) (w : ℕ) → IsWordThere f w → IsNamed f (word_value w)
-named_word f w h = named_option f (value_of w) h
+named_word f w h = by (value_of w) refl h
+  where
+    by : (o : Option Value) → value_of w ≡ o → IsThereOption f o → IsNamed f (by_word_option o)
+    by None e h = absurd h
+    by (Some v) e h = named_value f w v e h
 
 -- what values name is there
 pub named_objects : (f : Starts) (vs : List values.Value) → AllByRecursion (IsNamed f) vs → AllByRecursion (IsReference f) (objects_in vs)

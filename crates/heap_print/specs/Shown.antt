@@ -1,5 +1,5 @@
 -- How a print over the heap names objects: by the words that refer to them, before these are replaced by births.
-use Rattle.std.specs.Prelude.{◌≡◌, eqb, Bool, false, not, ◌&&◌, ◌==◌, ℕ, ◌+◌, ◌*◌, ◌/◌, pos, codes, decimal, List, [], ◌∷◌, ◌++◌, map, flat_map, fold, slice_index, Option, Some, None, IsTrue, if◌then◌else◌}
+use Rattle.std.specs.Prelude.{◌≡◌, eqb, Bool, false, not, ◌&&◌, ◌==◌, ℕ, ◌+◌, ◌*◌, ◌/◌, pos, codes, decimal, List, [], ◌∷◌, ◌++◌, map, flat_map, fold, length, slice_index, Option, Some, None, IsTrue, if◌then◌else◌}
 use Rattle.trace_types.specs.Values as values
 use Rattle.gc_words.specs.declared.value.Value.{Value}
 use Rattle.gc_words.specs.declared.value.Value.TheVariants.{Fixnum, Nil, True, False, Bwp, Object}
@@ -12,6 +12,7 @@ use Rattle.std.specs.List.{IsDistinct}
 use Rattle.trace_types.specs.Rules.{has}
 use Rattle.segment.specs.Layout.{space_of, skip_of, words_after}
 use Rattle.segment.specs.Segments.{Start}
+use Rattle.heap_store.specs.Queues.{nil_word}
 use Rattle.heap_store.specs.Starts.{Starts, birth_of, is_object, is_cell, bytes_of}
 
 -- the word that refers to what is at an address
@@ -47,14 +48,18 @@ renamed name v = v
 -- the word refers to an object of the heap
 pub record IsReference (f : Starts) (w : ℕ) : Type 0 where
   pub form : w ≡ reference (w / 8)
+  pub value : value_of w ≡ Some (Object (w / 8))
   pub there : IsTrue (is_object (f (w / 8)))
 
 -- ---- what is printed of an object, as words
 
--- the first word of what starts at a place
+-- the words after the header of what starts at a place
+abbrev pub words_at : Option Start → List ℕ
+words_at None = []
+words_at (Some x) = x.words
+
 abbrev pub first_of : Option Start → ℕ
-first_of None = 0
-first_of (Some x) = slice_index x.words 0
+first_of o = slice_index (words_at o) 0
 
 -- Words that are values: of a guardian those of its queue's cells. A byte object has none.
 abbrev pub shown_words : Starts → Start → List ℕ → List ℕ
@@ -104,3 +109,11 @@ words_in (Some x) = (skip_of (space_of x.kind) + words_after x.kind x.length + 1
 pub record AreOfGeneration (f : Starts) (g : ℕ) (places : List ℕ) : Type 0 where
   pub once : IsDistinct eqb places
   pub these : (a : ℕ) → has places a ≡ is_of_generation g (f a)
+
+-- ---- a queue in memory
+
+-- From a word that refers to the first of these cells, each cell refers to the next by its second word, and the last
+-- one's is `nil`. Without cells the word is `nil`.
+abbrev pub IsChain : Starts → ℕ → List ℕ → Type 0
+IsChain f w [] = w ≡ nil_word
+IsChain f w (c ∷ cells) = (value_of w ≡ Some (Object c)) × (length (words_at (f c)) ≡ 2) × IsChain f (slice_index (words_at (f c)) 1) cells

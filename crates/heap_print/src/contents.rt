@@ -1,17 +1,23 @@
 //! What is printed of an object: its fields, or of a guardian the values of its queue.
 
-ghost use Rattle.std.specs.Prelude.{◌≡◌, ◌∷◌, [], length, OnOk};
+ghost use Rattle.std.specs.Prelude.{◌≡◌, ◌≢◌, Some, IfSome, IfNone, ◌∷◌, ◌++◌, [], List, ℕ, length, flat_map, map, slice_index, OnOk, IfOk};
 ghost use Rattle.std.specs.FinMap.{get};
-ghost use Rattle.territory.specs.Territories.{words_of};
-ghost use Rattle.heap_print.specs.Shown.{with_words};
+ghost use Rattle.gc_words.specs.Layout.{IsAddress};
+ghost use Rattle.gc_words.specs.Word.{value_of};
+ghost use Rattle.heap_store.specs.Starts.{bytes_of};
+ghost use Rattle.heap_print.specs.Shown.{with_words, word_text, spaced_byte, words_at, first_of, IsChain};
 
 use crate::numbers::Numbers;
+use crate::text::{push_byte, push_value, push_word};
 use gc_words::{Address, Value, decode};
-use std::alloc::AllocError;
+use std::alloc::{AllocError, Global};
 use territory::Territory;
 
+/// More cells than a queue can have, since each has a place of its own.
+const TOO_MANY_CELLS: u64 = 2305843009213693953;
+
 /// Gives a number to the object that a word refers to, where it refers to one that has none.
-pub(crate) fn number_word(numbers: &mut Numbers, word: u64) -> Result<(), AllocError>
+fn number_word(numbers: &mut Numbers, word: u64) -> Result<(), AllocError>
     ensures { OnOk result (numbers.new ≡ with_words numbers.old (word ∷ [])) }
 {
     match decode(word) {
@@ -21,17 +27,108 @@ pub(crate) fn number_word(numbers: &mut Numbers, word: u64) -> Result<(), AllocE
 }
 
 /// Gives numbers to what the fields of an object refer to, from left to right.
-pub fn number_fields(
+pub(crate) fn number_fields(
     territory: &Territory,
     at: Address,
     count: u32,
     numbers: &mut Numbers,
 ) -> Result<(), AllocError>
-    requires { count ≡ length (words_of (get territory.now.starts at)) }
-    ensures { OnOk result (numbers.new ≡ with_words numbers.old (words_of (get territory.now.starts at))) }
+    requires { count ≡ length (words_at (get territory.now.starts at)) }
+    ensures { OnOk result (numbers.new ≡ with_words numbers.old (words_at (get territory.now.starts at))) }
 {
     for index in 0..count {
         number_word(numbers, territory.word(at, index))?;
     }
     Ok(())
+}
+
+/// Gives numbers to what words refer to, from left to right.
+pub(crate) fn number_words(words: &[u64], numbers: &mut Numbers) -> Result<(), AllocError>
+    ensures { OnOk result (numbers.new ≡ with_words numbers.old words.now) }
+{
+    for word in words {
+        number_word(numbers, *word)?;
+    }
+    Ok(())
+}
+
+/// Appends the value of a word after a space.
+#[tactic(auto, unfolding(gc_words::specs::Word::value_of))]
+fn push_spaced(text: &mut Vec<u8>, numbers: &Numbers, word: u64) -> Result<(), AllocError>
+    ensures { OnOk result (text.new.items ≡ text.old.items ++ word_text numbers.now word) }
+{
+    push_word(text, b" ")?;
+    match decode(word) {
+        Some(value) => push_value(text, numbers, value),
+        None => push_word(text, b"nil"),
+    }
+}
+
+/// Appends the fields of an object, each after a space.
+pub(crate) fn push_fields(
+    territory: &Territory,
+    at: Address,
+    count: u32,
+    numbers: &Numbers,
+    text: &mut Vec<u8>,
+) -> Result<(), AllocError>
+    requires { count ≡ length (words_at (get territory.now.starts at)) }
+    ensures { OnOk result (text.new.items ≡ text.old.items ++ flat_map (word_text numbers.now) (words_at (get territory.now.starts at))) }
+{
+    for index in 0..count {
+        push_spaced(text, numbers, territory.word(at, index))?;
+    }
+    Ok(())
+}
+
+/// Appends the values of words, each after a space.
+pub(crate) fn push_words(
+    words: &[u64],
+    numbers: &Numbers,
+    text: &mut Vec<u8>,
+) -> Result<(), AllocError>
+    ensures { OnOk result (text.new.items ≡ text.old.items ++ flat_map (word_text numbers.now) words.now) }
+{
+    for word in words {
+        push_spaced(text, numbers, *word)?;
+    }
+    Ok(())
+}
+
+/// The place of the object that a word refers to. None where it refers to none.
+fn referred(word: u64) -> Option<Address>
+    ensures some { IfSome result (λ a. value_of word ≡ Some (Value.Object a)) }
+    ensures valid { IfSome result IsAddress }
+    ensures none { IfNone result ((a : ℕ) → value_of word ≢ Some (Value.Object a)) }
+{
+    match decode(word) {
+        Some(value) => match value {
+            Value::Object(at) => Some(at),
+            _ => None,
+        },
+        None => None,
+    }
+}
+
+/// The words of the values in a queue, where `first` refers to its first cell: the first to be taken first.
+pub(crate) fn queue_words(
+    alloc: Global,
+    territory: &Territory,
+    first: u64,
+) -> Result<Vec<u64>, AllocError>
+    requires { (cells : List ℕ) × IsChain (get territory.now.starts) first cells }
+    ensures { IfOk result (λ words. (cells : List ℕ) → IsChain (get territory.now.starts) first cells → words.items ≡ map (λ c. first_of (get territory.now.starts c)) cells) }
+{
+    let mut words = Vec::new(alloc);
+    let mut next = first;
+    for _ in 0..TOO_MANY_CELLS {
+        match referred(next) {
+            Some(cell) => {
+                words.push(territory.word(cell, 0))?;
+                next = territory.word(cell, 1);
+            }
+            None => return Ok(words),
+        }
+    }
+    Ok(words)
 }

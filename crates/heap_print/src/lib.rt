@@ -5,5 +5,5 @@ mod contents;
 mod numbers;
 mod text;
 
-pub use contents::{number_fields};
+
 pub use numbers::Numbers;

@@ -1,0 +1,7 @@
+use Rattle.std.proofs.Common.{◌≡◌, take}
+use Rattle.std.specs.FinMap.{get}
+use Rattle.heap_print.specs.Shown.{with_words, words_at}
+use Rattle.heap_print.proofs.contents.number_fields.Given as goal
+
+abbrev pub invariant-loop-index : goal.invariant-loop-index
+invariant-loop-index l = l.numbers ≡ with_words l.initial.numbers (take l.index (words_at (get l.territory.starts l.at)))

@@ -1,0 +1,7 @@
+use Rattle.std.proofs.Common.{◌≡◌, ◌++◌, take, flat_map}
+use Rattle.std.specs.FinMap.{get}
+use Rattle.heap_print.specs.Shown.{word_text, words_at}
+use Rattle.heap_print.proofs.contents.push_fields.Given as goal
+
+abbrev pub invariant-loop-index : goal.invariant-loop-index
+invariant-loop-index l = l.text.items ≡ l.initial.text.items ++ flat_map (word_text l.numbers) (take l.index (words_at (get l.territory.starts l.at)))
