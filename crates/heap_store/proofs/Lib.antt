@@ -9,3 +9,4 @@ pub mod Opening
 pub mod Operands
 pub mod Commands
 pub mod Getting
+pub mod References

@@ -4,7 +4,7 @@ use Rattle.std.specs.FinMap.{get}
 use Rattle.std.specs.Option.{option_map}
 use Rattle.gc_words.specs.Layout.{thread_of}
 use Rattle.segment.specs.Segments.{Start}
-use Rattle.territory.specs.Territories.{SegmentView, TerritoryView, Refers, card_byte, AreCardsSound}
+use Rattle.territory.specs.Territories.{SegmentView, TerritoryView, AreCardsSound}
 use Rattle.heap_store.specs.Starts.{Starts, lasting}
 use Rattle.heap_store.specs.HeapView.{starts_in}
 
@@ -12,8 +12,7 @@ use Rattle.heap_store.specs.HeapView.{starts_in}
 abbrev pub HasNoFrom : TerritoryView → Type 0
 HasNoFrom t = (n : ℕ) (p : SegmentView) → slice_get t.segments n ≡ Some (Some p) → p.is_from ≡ false
 
--- One start of a territory was added, or was changed and kept its kind, birth and generation. No card of another word
--- got a greater byte.
+-- One start of a territory was added, or was changed and kept its kind, birth and generation.
 pub record IsStartChanged (old new : TerritoryView) (a : ℕ) (x : Start) : Type 0 where
   pub its_thread : thread_of a ≡ old.thread
   pub thread : new.thread ≡ old.thread
@@ -21,7 +20,6 @@ pub record IsStartChanged (old new : TerritoryView) (a : ℕ) (x : Start) : Type
   pub here : get new.starts a ≡ Some x
   pub others : (b : ℕ) → b ≢ a → get new.starts b ≡ get old.starts b
   pub same : IsSome (get old.starts a) → lasting (get old.starts a) ≡ lasting (Some x)
-  pub marks : (b index : ℕ) → IsSome (get old.starts b) → card_byte new b index ≤ card_byte old b index
 
 -- the generation of what starts somewhere
 abbrev pub generation_at : Starts → ℕ → Option ℕ
