@@ -10,3 +10,5 @@ pub mod Operands
 pub mod Commands
 pub mod Getting
 pub mod References
+pub mod Putting
+pub mod Cards

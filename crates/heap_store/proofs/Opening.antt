@@ -4,7 +4,7 @@ use Rattle.std.specs.List.{AllByRecursion}
 use Rattle.std.specs.FinMap.{get, get-empty, find}
 use Rattle.std.specs.Ordering.{nat_cmp}
 use Rattle.std.proofs.lemmas.Bool.{cases_lt, false≢true}
-use Rattle.std.proofs.lemmas.List.{length-append, get_or_append_left, get_or-append_right}
+use Rattle.std.proofs.lemmas.List.{length-append, get_or_past, get_or_append_left, get_or-append_right}
 use Rattle.std.proofs.lemmas.Option.{same_Some, slice_get_past, slice_get_within, slice_get-get_or}
 use Rattle.gc_words.specs.declared.value.Value.{Value}
 use Rattle.gc_words.specs.declared.value.Value.TheVariants as word
@@ -16,7 +16,7 @@ use Rattle.trace_types.specs.States.{State, opening}
 use Rattle.trace_types.specs.WellFormed.{IsWellFormedTo}
 use Rattle.trace_types.proofs.Opening.{opening_well_formed}
 use Rattle.segment.specs.Segments.{Start}
-use Rattle.territory.specs.Territories.{SegmentView, TerritoryView, no_territory}
+use Rattle.territory.specs.Territories.{SegmentView, TerritoryView, segment_at, no_territory}
 use Rattle.heap_store.specs.declared.notes.Noted.{Noted}
 use Rattle.heap_store.specs.declared.notes.Noted.TheVariants as note
 use Rattle.heap_store.specs.Starts.{Starts, is_object, read, IsThere}
@@ -93,8 +93,8 @@ module _ (territories : List TerritoryView) (new : AreNew territories 64) where
   none_there : (a : ℕ) (x : Start) → starts_in territories a ≡ Some x → ⊥
   none_there a x e = let n : None ≡ Some x = sym (empty_at a) ∙ e in cc
 
-  no_segment : (n : ℕ) (p : SegmentView) → slice_get {X = Option SegmentView} [] n ≡ Some (Some p) → ⊥
-  no_segment n p e = let none : None ≡ Some (Some p) = sym (slice_get_past {X = Option SegmentView} [] n (omega arith)) ∙ e in cc
+  no_segment : (i n : ℕ) (p : SegmentView) → segment_at (no_territory i) n ≡ Some p → ⊥
+  no_segment i n p e = let none : None ≡ Some p = sym (get_or_past {X = Option SegmentView} [] n None (omega arith)) ∙ e in cc
 
   not_there : (i a : ℕ) (x : Start) → get (no_territory i).starts a ≡ Some x → ⊥
   not_there i a x f = let none : None ≡ Some x = sym (get-empty nat_cmp a) ∙ f in cc
@@ -122,7 +122,7 @@ module _ (territories : List TerritoryView) (new : AreNew territories 64) where
       count = new.count;
       threads = λ i t e. ap (λ (u : TerritoryView). u.thread) (sym (is_new i t e));
       placed = λ i t a x e f. absurd (not_there i a x (ap (λ (u : TerritoryView). get u.starts a) (is_new i t e) ∙ f));
-      no_from = λ i t e n p f. absurd (no_segment n p (ap (λ (u : TerritoryView). slice_get u.segments n) (is_new i t e) ∙ f));
+      no_from = λ i t e n p f. absurd (no_segment i n p (ap (λ (u : TerritoryView). segment_at u n) (is_new i t e) ∙ f));
     };
     closed = record { single = λ a b x y e _ _. absurd (none_there a x e); laid_out = λ a x e. absurd (none_there a x e) };
     graph = record { objects = λ a x e _. absurd (none_there a x e); places = λ birth o e. absurd (let n : None ≡ Some o = e in cc) };
