@@ -9,3 +9,6 @@ pub mod Opening
 pub mod Operands
 pub mod Commands
 pub mod Getting
+pub mod References
+pub mod Putting
+pub mod Cards

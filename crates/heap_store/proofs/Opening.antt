@@ -1,10 +1,11 @@
 -- An empty heap stands for the state in which a trace begins.
-use Rattle.std.proofs.Common.{◌≡◌, ◌≢◌, ℕ, zero, suc, ◌+◌, ◌<◌, ◌≤◌, Bool, true, false, List, [], ◌∷◌, length, map, replicate, slice_get, get_or, IsTrue, IsSome, Option, Some, None, refl, sym, ◌∙◌, ap, subst, arith, inl, inr, ◌⊎◌}
+use Rattle.std.proofs.Common.{◌≡◌, ◌≢◌, ℕ, zero, suc, ◌+◌, ◌<◌, ◌≤◌, Bool, true, false, List, [], ◌∷◌, ◌++◌, ◌-◌, length, map, replicate, slice_get, get_or, IsTrue, IsSome, Option, Some, None, refl, sym, ◌∙◌, ap, subst, arith, inl, inr, ◌⊎◌}
 use Rattle.std.specs.List.{AllByRecursion}
 use Rattle.std.specs.FinMap.{get, get-empty, find}
 use Rattle.std.specs.Ordering.{nat_cmp}
 use Rattle.std.proofs.lemmas.Bool.{cases_lt, false≢true}
-use Rattle.std.proofs.lemmas.Option.{same_Some, slice_get_past, slice_get_within}
+use Rattle.std.proofs.lemmas.List.{length-append, get_or_past, get_or_append_left, get_or-append_right}
+use Rattle.std.proofs.lemmas.Option.{same_Some, slice_get_past, slice_get_within, slice_get-get_or}
 use Rattle.gc_words.specs.declared.value.Value.{Value}
 use Rattle.gc_words.specs.declared.value.Value.TheVariants as word
 use Rattle.gc_words.specs.declared.registration.Registration.{Registration}
@@ -15,7 +16,7 @@ use Rattle.trace_types.specs.States.{State, opening}
 use Rattle.trace_types.specs.WellFormed.{IsWellFormedTo}
 use Rattle.trace_types.proofs.Opening.{opening_well_formed}
 use Rattle.segment.specs.Segments.{Start}
-use Rattle.territory.specs.Territories.{SegmentView, TerritoryView, no_territory}
+use Rattle.territory.specs.Territories.{SegmentView, TerritoryView, segment_at, no_territory}
 use Rattle.heap_store.specs.declared.notes.Noted.{Noted}
 use Rattle.heap_store.specs.declared.notes.Noted.TheVariants as note
 use Rattle.heap_store.specs.Starts.{Starts, is_object, read, IsThere}
@@ -58,6 +59,26 @@ well_formed_to_0 oldest low high =
       version = well.version;
     }
 
+-- one more territory
+pub pushed : (territories after : List TerritoryView) (n : ℕ) (t : TerritoryView) → AreNew territories n → t ≡ no_territory n → after ≡ territories ++ t ∷ [] → AreNew after (n + 1)
+pushed territories after n t new is e = subst (λ ts. AreNew ts (n + 1)) (sym e) (record {
+  count = length-append territories (t ∷ []) ∙ ap (λ k. k + 1) new.count;
+  each = λ i below. slice_get-get_or (territories ++ t ∷ []) i t (omega (arith, length-append territories (t ∷ []), new.count, below)) ∙ elim (cases_lt i n) [
+    | inl less ↦
+        ap Some (get_or-append_left territories i less)
+        ∙ sym (slice_get-get_or territories i t (omega (arith, less, new.count))) ∙ new.each i less
+    | inr past ↦
+        let last : i ≡ n = omega (arith, past, below) in
+        ap (λ k. Some (get_or (territories ++ t ∷ []) k t)) last ∙ ap Some (get_or-append_right territories (t ∷ []) n n t new.count (omega arith) ∙ ap (λ k. get_or (t ∷ []) k t) (n-n n)) ∙ ap Some is ∙ ap (λ k. Some (no_territory k)) (sym last)
+  ];
+})
+  where
+    get_or-append_left : (ts : List TerritoryView) (i : ℕ) → i < n → get_or (territories ++ t ∷ []) i t ≡ get_or territories i t
+    get_or-append_left ts i less = get_or_append_left territories (t ∷ []) t i (omega (arith, less, new.count))
+
+    n-n : (k : ℕ) → k - k ≡ 0
+    n-n k = omega arith
+
 module _ (territories : List TerritoryView) (new : AreNew territories 64) where
   is_new : (i : ℕ) (t : TerritoryView) → slice_get territories i ≡ Some t → no_territory i ≡ t
   is_new i t e = same_Some _ _ (sym (new.each i (omega (arith, slice_get_within territories i t e, new.count))) ∙ e)
@@ -72,8 +93,11 @@ module _ (territories : List TerritoryView) (new : AreNew territories 64) where
   none_there : (a : ℕ) (x : Start) → starts_in territories a ≡ Some x → ⊥
   none_there a x e = let n : None ≡ Some x = sym (empty_at a) ∙ e in cc
 
-  no_segment : (n : ℕ) (p : SegmentView) → slice_get {X = Option SegmentView} [] n ≡ Some (Some p) → ⊥
-  no_segment n p e = let none : None ≡ Some (Some p) = sym (slice_get_past {X = Option SegmentView} [] n (omega arith)) ∙ e in cc
+  no_segment : (i n : ℕ) (p : SegmentView) → segment_at (no_territory i) n ≡ Some p → ⊥
+  no_segment i n p e = let none : None ≡ Some p = sym (get_or_past {X = Option SegmentView} [] n None (omega arith)) ∙ e in cc
+
+  not_there : (i a : ℕ) (x : Start) → get (no_territory i).starts a ≡ Some x → ⊥
+  not_there i a x f = let none : None ≡ Some x = sym (get-empty nat_cmp a) ∙ f in cc
 
   no_object : (a : ℕ) → IsTrue (is_object (starts_in territories a)) → ⊥
   no_object a h = false≢true (sym (ap is_object (empty_at a)) ∙ h)
@@ -97,7 +121,8 @@ module _ (territories : List TerritoryView) (new : AreNew territories 64) where
     territories = record {
       count = new.count;
       threads = λ i t e. ap (λ (u : TerritoryView). u.thread) (sym (is_new i t e));
-      no_from = λ i t e n p f. absurd (no_segment n p (ap (λ (u : TerritoryView). slice_get u.segments n) (is_new i t e) ∙ f));
+      placed = λ i t a x e f. absurd (not_there i a x (ap (λ (u : TerritoryView). get u.starts a) (is_new i t e) ∙ f));
+      no_from = λ i t e n p f. absurd (no_segment i n p (ap (λ (u : TerritoryView). segment_at u n) (is_new i t e) ∙ f));
     };
     closed = record { single = λ a b x y e _ _. absurd (none_there a x e); laid_out = λ a x e. absurd (none_there a x e) };
     graph = record { objects = λ a x e _. absurd (none_there a x e); places = λ birth o e. absurd (let n : None ≡ Some o = e in cc) };
@@ -154,7 +179,4 @@ module _ (territories : List TerritoryView) (new : AreNew territories 64) where
       (subst (λ r. Stands (at [] r) (opening oldest)) (sym nothing) (opened_empty registers notes oldest nil_registers empty_notes low high))
 
   pub sound_cards : HaveSoundCards territories
-  sound_cards i t e a index b h x there refers generation less = absurd (not_there (ap (λ (u : TerritoryView). get u.starts a) (is_new i t e) ∙ there))
-    where
-      not_there : get (no_territory i).starts a ≡ Some x → ⊥
-      not_there f = let none : None ≡ Some x = sym (get-empty nat_cmp a) ∙ f in cc
+  sound_cards i t e a index b h x there refers generation less = absurd (not_there i a x (ap (λ (u : TerritoryView). get u.starts a) (is_new i t e) ∙ there))

@@ -64,6 +64,16 @@ module _ (territories : List TerritoryView) (i : ℕ) (old new : TerritoryView) 
       | inl same ↦ ap (λ (u : TerritoryView). u.thread) (sym (this_territory j t same e)) ∙ changed.thread ∙ settled.threads i old found ∙ sym same
       | inr ne ↦ settled.threads j t (other_territory j t ne e)
     ];
+    placed = λ j t b y e f. elim (cases_eq b a) [
+      | inl here ↦ elim (cases_eq j i) [
+        | inl same ↦ ap thread_of here ∙ its_place ∙ sym same
+        | inr ne ↦ settled.placed j t b y (other_territory j t ne e) f
+      ]
+      | inr other ↦ elim (cases_eq j i) [
+        | inl same ↦ settled.placed i old b y found (sym (changed.others b other) ∙ ap (λ (u : TerritoryView). get u.starts b) (this_territory j t same e) ∙ f) ∙ sym same
+        | inr ne ↦ settled.placed j t b y (other_territory j t ne e) f
+      ]
+    ];
     no_from = λ j t e. elim (cases_eq j i) [
       | inl same ↦ subst HasNoFrom (this_territory j t same e) (changed.no_from (settled.no_from i old found))
       | inr ne ↦ settled.no_from j t (other_territory j t ne e)

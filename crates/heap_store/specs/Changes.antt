@@ -1,19 +1,19 @@
 -- What a call does to a territory and to the starts of a heap.
-use Rattle.std.specs.Prelude.{◌≡◌, ◌≢◌, ℕ, ◌≤◌, ◌<◌, false, List, IsSome, Option, Some, None, slice_get}
+use Rattle.std.specs.Prelude.{◌≡◌, ◌≢◌, ℕ, false, List, ◌++◌, drop, replicate, IsSome, Option, Some, None, slice_get}
 use Rattle.std.specs.FinMap.{get}
 use Rattle.std.specs.Option.{option_map}
 use Rattle.gc_words.specs.Layout.{thread_of}
+use Rattle.trace_types.specs.declared.kind.Kind.{Kind}
 use Rattle.segment.specs.Segments.{Start}
-use Rattle.territory.specs.Territories.{SegmentView, TerritoryView, Refers, card_byte, AreCardsSound}
+use Rattle.territory.specs.Territories.{SegmentView, TerritoryView, segment_at, AreCardsSound, IsToldMore}
 use Rattle.heap_store.specs.Starts.{Starts, lasting}
 use Rattle.heap_store.specs.HeapView.{starts_in}
 
 -- no segment is set aside for a collection
 abbrev pub HasNoFrom : TerritoryView → Type 0
-HasNoFrom t = (n : ℕ) (p : SegmentView) → slice_get t.segments n ≡ Some (Some p) → p.is_from ≡ false
+HasNoFrom t = (n : ℕ) (p : SegmentView) → segment_at t n ≡ Some p → p.is_from ≡ false
 
--- One start of a territory was added, or was changed and kept its kind, birth and generation. No card of another word
--- got a greater byte.
+-- One start of a territory was added, or was changed and kept its kind, birth and generation.
 pub record IsStartChanged (old new : TerritoryView) (a : ℕ) (x : Start) : Type 0 where
   pub its_thread : thread_of a ≡ old.thread
   pub thread : new.thread ≡ old.thread
@@ -21,7 +21,25 @@ pub record IsStartChanged (old new : TerritoryView) (a : ℕ) (x : Start) : Type
   pub here : get new.starts a ≡ Some x
   pub others : (b : ℕ) → b ≢ a → get new.starts b ≡ get old.starts b
   pub same : IsSome (get old.starts a) → lasting (get old.starts a) ≡ lasting (Some x)
-  pub marks : (b index : ℕ) → IsSome (get old.starts b) → card_byte new b index ≤ card_byte old b index
+
+-- A start was added, and the cards stay sound.
+pub record IsMade (old new : TerritoryView) (a : ℕ) (x : Start) : Type 0 where
+  pub changed : IsStartChanged old new a x
+  pub free : get old.starts a ≡ None
+  pub sound : (before after : ℕ → Option ℕ) → IsToldMore before after old a → AreCardsSound before old → AreCardsSound after new
+
+-- A start that was there got other words, and the cards stay sound.
+pub record IsRewritten (old new : TerritoryView) (a : ℕ) (x : Start) (words : List ℕ) : Type 0 where
+  pub changed : IsStartChanged old new a (record x { words = words })
+  pub sound : (generation_at : ℕ → Option ℕ) → AreCardsSound generation_at old → AreCardsSound generation_at new
+
+-- a new object of generation 0
+abbrev pub new_start : Kind → ℕ → ℕ → List ℕ → Start
+new_start kind length birth words = record { kind = kind; length = length; generation = 0; birth = birth; words = words }
+
+-- the first words are this one
+abbrev pub filled : ℕ → ℕ → List ℕ → List ℕ
+filled count word words = replicate count word ++ drop count words
 
 -- the generation of what starts somewhere
 abbrev pub generation_at : Starts → ℕ → Option ℕ

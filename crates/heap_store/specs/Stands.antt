@@ -1,5 +1,7 @@
 -- A heap stands for a state.
 use Rattle.std.specs.Prelude.{◌≡◌, ℕ, ◌≤◌, ◌⊎◌, true, false, List, [], ◌∷◌, length, slice_get, IsTrue, Some}
+use Rattle.std.specs.FinMap.{get}
+use Rattle.gc_words.specs.Layout.{thread_of}
 use Rattle.trace_types.specs.Values.{is_guardian}
 use Rattle.trace_types.specs.States.{State}
 use Rattle.trace_types.specs.Rules.{has}
@@ -13,10 +15,13 @@ use Rattle.heap_store.specs.Roots.{RegistersStand, LocksStand, NotesStand, Regis
 use Rattle.heap_store.specs.HeapView.{HeapView, starts_of}
 use Rattle.heap_store.specs.Changes.{HasNoFrom}
 
--- the territories of threads 0 to 63, in this order, and no segment is set aside for a collection
+-- The territories of threads 0 to 63, in this order: a start is in the one of its thread, and no segment is set aside
+-- for a collection.
 pub record AreSettled (territories : List TerritoryView) : Type 0 where
   pub count : length territories ≡ 64
   pub threads : (i : ℕ) (t : TerritoryView) → slice_get territories i ≡ Some t → t.thread ≡ i
+  pub placed : (i : ℕ) (t : TerritoryView) (a : ℕ) (x : Start) → slice_get territories i ≡ Some t → get t.starts a ≡ Some x
+      → thread_of a ≡ i
   pub no_from : (i : ℕ) (t : TerritoryView) → slice_get territories i ≡ Some t → HasNoFrom t
 
 -- a guardian of this generation

@@ -36,7 +36,7 @@ grown_cells p first size birth s room used pos =
     let z : get_or p.births (p.top / 2) 0 ≡ 0 = s.laid.loose (p.top / 2) (omega (arith, s.laid.even)) in
     cells_more (is_free p.role) (is_cell_space p.space) (count_by (λ b. not (eqb b 0)) (set p.births (p.top / 2) birth)) (count_by (λ b. not (eqb b 0)) p.births) used (one_more p.births (p.top / 2) birth k_in z pos)
 
-used_same : (free : Bool) (a b : ℕ) → a ≡ b → cond free 0 a ≡ cond free 0 b + 0
+pub used_same : (free : Bool) (a b : ℕ) → a ≡ b → cond free 0 a ≡ cond free 0 b + 0
 used_same true a b e = refl
 used_same false a b e = omega arith
 

@@ -12,3 +12,5 @@ pub mod Roomy
 pub mod Grown
 pub mod Reading
 pub mod Allocated
+pub mod Putting
+pub mod Worded

@@ -10,10 +10,10 @@ use Rattle.segment.specs.declared.space.Space.TheVariants as space
 use Rattle.segment.specs.declared.segment.Role.{Role}
 use Rattle.segment.specs.declared.segment.Role.TheVariants.{Free, Current, From}
 use Rattle.segment.specs.Layout.{space_index, HasLength}
-use Rattle.segment.specs.Segments.{Segment, Start, IsSound, is_free, vacant, spot}
+use Rattle.segment.specs.Segments.{Segment, Start, IsSound, is_free, vacant, spot, place_in, marked_at}
 use Rattle.territory.specs.declared.counts.SegmentCounts.{SegmentCounts}
 use Rattle.territory.specs.declared.territory.Targets.{Targets}
-use Rattle.territory.specs.Territories.{SegmentView, TerritoryView}
+use Rattle.territory.specs.Territories.{SegmentView, TerritoryView, needs_mark, with_dirty}
 
 pub record PoolView : Type 0 where
   pub segments : List Segment
@@ -159,3 +159,11 @@ territory_view thread p targets = record {
   dirty = chain_of p.dirty 1;
   targets = targets;
 }
+
+-- a segment as it is after word `index` of start k was put that refers to generation `refers`
+abbrev pub noted : Segment → ℕ → ℕ → ℕ → Segment
+noted p k index refers = if needs_mark (is_from_role p.role) p.generation refers then marked_at p (place_in p k index) refers else p
+
+-- the list of dirty segments after that
+abbrev pub dirty_after : Segment → List ℕ → ℕ → ℕ → List ℕ
+dirty_after p dirty n refers = if needs_mark (is_from_role p.role) p.generation refers then with_dirty dirty n else dirty

@@ -1,5 +1,5 @@
 -- What contracts see of a territory.
-use Rattle.std.specs.Prelude.{◌≡◌, ◌≢◌, ℕ, ◌+◌, ◌*◌, ◌/◌, ◌<◌, ◌≤◌, ◌==◌, Bool, true, false, if◌then◌else◌, nat_lt, List, [], ◌∷◌, length, min, replicate, slice_get, slice_index, slice_index_or, slice_set, ◌++◌, ◌%◌, ◌⊎◌, Option, Some, None, IsSome, IsNone, IfSome, refl}
+use Rattle.std.specs.Prelude.{◌≡◌, ◌≢◌, ℕ, ◌+◌, ◌*◌, ◌/◌, ◌<◌, ◌≤◌, ◌==◌, Bool, true, false, if◌then◌else◌, nat_lt, List, [], ◌∷◌, length, min, replicate, slice_get, slice_index, slice_index_or, slice_set, ◌++◌, ◌%◌, ◌⊎◌, Option, Some, None, option_map, IsSome, IsNone, IfSome, refl}
 use Rattle.std.specs.List.{list_any}
 use Rattle.std.specs.Ordering.{nat_cmp}
 use Rattle.std.specs.FinMap.{FinMap, code, get, insert, empty}
@@ -179,7 +179,23 @@ marks (Some s) refers = needs_mark s.is_from s.generation refers
 
 -- the numbers with n last, where it was not there
 abbrev pub with_dirty : List ℕ → ℕ → List ℕ
-with_dirty dirty n = if list_any (λ m. m == n) dirty then dirty else dirty ++ n ∷ []
+with_dirty dirty n = if list_any (λ m. n == m) dirty then dirty else dirty ++ n ∷ []
+
+-- `refers` is at most the generation to which a word of the start refers, where that is below the start's own
+abbrev pub TellsLower : (ℕ → Option ℕ) → Option Start → ℕ → ℕ → Type 0
+TellsLower generation_at None word refers = Unit {0}
+TellsLower generation_at (Some x) word refers =
+    (b h : ℕ) → has_values x.kind ≡ true → value_of word ≡ Some (value.Object b) → generation_at b ≡ Some h → h < x.generation → refers ≤ h
+
+-- a territory with another word in the start at a, and with the card of the word marked where that is needed
+abbrev pub with_word : TerritoryView → ℕ → ℕ → ℕ → ℕ → TerritoryView
+with_word t a index word refers =
+    let segment = segment_at t (segment_of a) in
+    record t {
+      starts = put_start t.starts a (get t.starts a) index word;
+      segments = slice_set t.segments (segment_of a) (option_map (with_card a index refers) segment);
+      dirty = if marks segment refers then with_dirty t.dirty (segment_of a) else t.dirty;
+    }
 
 -- The segments in use stay as they are, and so do the starts and areas: what a refused call leaves.
 pub record IsAsBefore (old new : TerritoryView) : Type 0 where

@@ -1,10 +1,10 @@
 //! The segments of one creator thread.
 
-ghost use Rattle.std.specs.Prelude.{◌≡◌, ◌<◌, ◌↔◌, ◌/◌, length, slice_index, IfOk, IfSome, IsSome, IsTrue};
+ghost use Rattle.std.specs.Prelude.{◌≡◌, ℕ, ◌<◌, ◌↔◌, ◌/◌, Option, length, slice_index, IfOk, IfSome, IsSome, IsTrue};
 ghost use Rattle.std.specs.FinMap as map;
 ghost use Rattle.gc_words.specs.declared.address.TheConstants.{THREADS};
 ghost use Rattle.gc_words.specs.Layout.{segment_of, offset_of};
-ghost use Rattle.territory.specs.Territories.{no_territory, words_of, IsShaped};
+ghost use Rattle.territory.specs.Territories.{no_territory, words_of, with_word, IsShaped, TellsLower, AreCardsSound};
 
 mod allocating;
 
@@ -134,5 +134,20 @@ impl Territory {
     {
         let (segment, start) = place(at);
         self.pool.segment(segment).word(start, index as usize)
+    }
+
+    /// Puts a word into a start, at an index that is counted after its header. `refers` is the generation of
+    /// what the word refers to, or 255 where it refers to nothing or needs no mark. The card of the word is
+    /// marked where `refers` is below the start's generation, and in a from-segment wherever it is not 255:
+    /// the write barrier of a generational collector, with one byte for each 64 words.
+    pub fn put(&mut self, at: Address, index: u32, word: u64, refers: u8)
+        requires { index < length (words_of (map.get self.old.starts at)) }
+        ensures after { self.new ≡ with_word self.old at index word refers }
+        ensures sound { (generation_at : ℕ → Option ℕ) → TellsLower generation_at (map.get self.old.starts at) word refers
+            → AreCardsSound generation_at self.old → AreCardsSound generation_at self.new }
+    {
+        let (segment, start) = place(at);
+        self.pool.put(segment, start, index as usize, word);
+        self.pool.note(segment, start, index as usize, refers);
     }
 }

@@ -2,11 +2,14 @@
 
 ghost use Rattle.std.specs.Prelude.{◌≡◌, ◌≢◌, ◌<◌, cond, length, false, slice_set};
 ghost use Rattle.segment.specs.Layout.{size_of, skip_of, kind_of, length_of, HasLength};
-ghost use Rattle.segment.specs.Segments.{HasRoom, is_free, grown};
-ghost use Rattle.territory.specs.Pools.{IsSettled, numbered, is_cell_space};
+ghost use Rattle.segment.specs.Segments.{HasRoom, IsStart, is_free, object_at, grown, put_in};
+ghost use Rattle.seg_chain.specs.Lists.{chain_of};
+ghost use Rattle.territory.specs.Territories.{needs_mark};
+ghost use Rattle.territory.specs.Pools.{IsSettled, numbered, is_cell_space, is_from_role, noted, dirty_after};
 
 use super::Pool;
-use segment::Space;
+use cards::CLEAN;
+use segment::{Role, Space};
 
 /// How many cells an object of a space is: a queue cell is one.
 fn cells_of(space: Space) -> u64
@@ -15,6 +18,18 @@ fn cells_of(space: Space) -> u64
     match space {
         Space::Cell => 1,
         _ => 0,
+    }
+}
+
+/// Whether a word of a start of this generation that refers to another needs a mark on its card: where the
+/// other is younger, so that it could be collected before; and in a from-segment always, since the start
+/// may get an older generation. 255 stands for no reference.
+fn needs_mark(role: Role, generation: u8, refers: u8) -> bool
+    ensures { result ≡ needs_mark (is_from_role role) generation refers }
+{
+    match role {
+        Role::From => refers < CLEAN,
+        Role::Free | Role::Current => refers < generation,
     }
 }
 
@@ -41,5 +56,38 @@ impl Pool {
         let offset = self.segments[n].grow(first, size, birth);
         self.counts.cells += cells;
         offset
+    }
+
+    /// Puts a word into start `k` of segment `n`.
+    pub fn put(&mut self, n: usize, k: usize, index: usize, word: u64)
+        requires settled { IsSettled self.old }
+        requires start { IsStart (numbered self.old.segments n) k }
+        requires index_in { index < length (object_at (numbered self.old.segments n) k).words }
+        ensures settled { IsSettled self.new }
+        ensures after { self.new ≡ record self.old { segments = slice_set self.old.segments n (put_in (numbered self.old.segments n) k index word) } }
+    {
+        self.segments[n].put(k, index, word);
+    }
+
+    /// Notes that a word of start `k` of segment `n` refers to a generation, where a mark is needed: the
+    /// card of the word gets it, and the segment is dirty from then on.
+    pub fn note(&mut self, n: usize, k: usize, index: usize, refers: u8)
+        requires settled { IsSettled self.old }
+        requires start { IsStart (numbered self.old.segments n) k }
+        requires index_in { index < length (object_at (numbered self.old.segments n) k).words }
+        ensures settled { IsSettled self.new }
+        ensures segments { self.new.segments ≡ slice_set self.old.segments n (noted (numbered self.old.segments n) k index refers) }
+        ensures dirty { chain_of self.new.dirty 1 ≡ dirty_after (numbered self.old.segments n) (chain_of self.old.dirty 1) n refers }
+        ensures areas { self.new.areas ≡ self.old.areas }
+        ensures lists { self.new.lists ≡ self.old.lists }
+    {
+        let segment = &self.segments[n];
+        if !needs_mark(segment.role(), segment.generation(), refers) {
+            return;
+        }
+        let was_clean = self.segments[n].mark(k, index, refers);
+        if was_clean {
+            self.dirty.push_last(1, n);
+        }
     }
 }
