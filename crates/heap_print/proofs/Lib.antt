@@ -6,3 +6,5 @@ pub mod Lines
 pub mod Sums
 pub mod Counted
 pub mod Chained
+pub mod Queued
+pub mod Spaced

@@ -12,6 +12,7 @@ use Rattle.std.specs.List.{IsDistinct}
 use Rattle.trace_types.specs.Rules.{has}
 use Rattle.segment.specs.Layout.{space_of, skip_of, words_after}
 use Rattle.segment.specs.Segments.{Start}
+use Rattle.territory.specs.Territories.{words_of as words_at}
 use Rattle.heap_store.specs.Queues.{nil_word}
 use Rattle.heap_store.specs.Starts.{Starts, birth_of, is_object, is_cell, bytes_of}
 
@@ -52,11 +53,6 @@ pub record IsReference (f : Starts) (w : ℕ) : Type 0 where
   pub there : IsTrue (is_object (f (w / 8)))
 
 -- ---- what is printed of an object, as words
-
--- the words after the header of what starts at a place
-abbrev pub words_at : Option Start → List ℕ
-words_at None = []
-words_at (Some x) = x.words
 
 abbrev pub first_of : Option Start → ℕ
 first_of o = slice_index (words_at o) 0

@@ -1,11 +1,12 @@
 //! What is printed of an object: its fields, or of a guardian the values of its queue.
 
-ghost use Rattle.std.specs.Prelude.{◌≡◌, ◌≢◌, Some, IfSome, IfNone, ◌∷◌, ◌++◌, [], List, ℕ, length, flat_map, map, slice_index, OnOk, IfOk};
+ghost use Rattle.std.specs.Prelude.{◌≡◌, ◌≢◌, ◌+◌, ◌/◌, ◌≤◌, Some, IfSome, IfNone, ◌∷◌, ◌++◌, [], List, ℕ, length, flat_map, map, slice_index, OnOk, IfOk};
 ghost use Rattle.std.specs.FinMap.{get};
 ghost use Rattle.gc_words.specs.Layout.{IsAddress};
 ghost use Rattle.gc_words.specs.Word.{value_of};
 ghost use Rattle.heap_store.specs.Starts.{bytes_of};
-ghost use Rattle.heap_print.specs.Shown.{with_words, word_text, spaced_byte, words_at, first_of, IsChain};
+ghost use Rattle.territory.specs.Territories.{words_of as words_at};
+ghost use Rattle.heap_print.specs.Shown.{with_words, word_text, spaced_byte, first_of, IsChain};
 
 use crate::numbers::Numbers;
 use crate::text::{push_byte, push_value, push_word};
@@ -77,6 +78,24 @@ pub(crate) fn push_fields(
 {
     for index in 0..count {
         push_spaced(text, numbers, territory.word(at, index))?;
+    }
+    Ok(())
+}
+
+/// Appends the bytes of a byte object, each after a space.
+pub(crate) fn push_bytes(
+    territory: &Territory,
+    at: Address,
+    count: u32,
+    text: &mut Vec<u8>,
+) -> Result<(), AllocError>
+    requires { (count + 7) / 8 ≤ length (words_at (get territory.now.starts at)) }
+    ensures { OnOk result (text.new.items ≡ text.old.items ++ flat_map spaced_byte (bytes_of (words_at (get territory.now.starts at)) count)) }
+{
+    for index in 0..count {
+        let bytes = territory.word(at, index / 8).to_le_bytes();
+        push_word(text, b" ")?;
+        push_byte(text, bytes[(index % 8) as usize])?;
     }
     Ok(())
 }

@@ -3,6 +3,7 @@
 
 mod contents;
 mod numbers;
+mod objects;
 mod text;
 
 

@@ -38,7 +38,8 @@ impl Heap {
     pub fn territory(&self, thread: u8) -> &Territory
         requires alive { self.now.failed ≡ false }
         requires thread { thread ≤ 63 }
-        ensures { slice_get self.now.territories thread ≡ Some result.now }
+        ensures lends { slice_get self.now.territories thread ≡ Some result.now }
+        ensures valid { IsValid self.now }
     {
         &self.territories[usize::from(thread)]
     }

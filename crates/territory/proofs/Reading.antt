@@ -1,14 +1,14 @@
 -- What a territory tells of a start. `q` is the segment that was read, and k the number of the start in it.
 use Rattle.std.proofs.Common.{◌≡◌, ◌≢◌, ℕ, ◌+◌, ◌*◌, ◌/◌, ◌%◌, ◌<◌, ◌≤◌, Bool, true, false, List, [], length, get_or, Option, Some, None, IsSome, IfSome, IsTrue, refl, sym, ◌∙◌, ap, subst, arith}
 use Rattle.std.specs.FinMap.{get}
-use Rattle.gc_words.specs.declared.address.TheConstants.{SEGMENTS}
+use Rattle.gc_words.specs.declared.address.TheConstants.{SEGMENTS, THREADS}
 use Rattle.gc_words.specs.Layout.{thread_of, segment_of, offset_of}
 use Rattle.segment.specs.Layout.{kind_of, length_of, count_of, words_after, HasLength}
 use Rattle.segment.specs.Segments.{Segment, Start, IsSound, IsStart, object_at, first_at, spot}
 use Rattle.segment.proofs.Spots.{spot_start, words_length}
 use Rattle.segment.proofs.Sizes.{HasLength_le}
 use Rattle.territory.specs.declared.territory.Targets.{Targets}
-use Rattle.territory.specs.Territories.{TerritoryView, IsShaped, words_of}
+use Rattle.territory.specs.Territories.{TerritoryView, IsShaped, HaveAddresses, words_of}
 use Rattle.territory.specs.Pools.{PoolView, IsSettled, numbered, starts_of, territory_view}
 use Rattle.territory.proofs.Present.{IsPresent, present, born}
 
@@ -90,3 +90,9 @@ start_told thread pool targets now a n o s e t is io even = (
   (λ h. let r : IsReached thread pool now a = reach thread pool targets now a s e h in
       subst (λ v. IsStart (numbered pool.segments n) (v / 2)) (sym io) (subst (λ v. IsStart (numbered pool.segments v) (offset_of a / 2)) (sym is) r.present.starts)),
 )
+
+-- each start has an address of the thread
+pub addresses : (thread : ℕ) (pool : PoolView) (targets : Targets) (now : TerritoryView) → thread < THREADS → IsSettled pool → territory_view thread pool targets ≡ now → HaveAddresses now
+addresses thread pool targets now small s e = λ a x has.
+    let p : IsPresent thread pool.segments a x = present thread pool a x s (ap (λ (v : TerritoryView). get v.starts a) e ∙ has) in
+    ((omega (arith, p.address, p.within, s.count, p.small, small), omega (arith, p.address)), p.thread_is ∙ ap (λ (v : TerritoryView). v.thread) e)

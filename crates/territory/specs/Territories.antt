@@ -5,7 +5,7 @@ use Rattle.std.specs.Ordering.{nat_cmp}
 use Rattle.std.specs.FinMap.{FinMap, code, get, insert, empty}
 use Rattle.std.specs.Coded.{Coded, code_by, coded×, coded_ℕ, coded_bool, coded_list, coded_option}
 use Rattle.gc_words.specs.declared.value.Value.TheVariants as value
-use Rattle.gc_words.specs.Layout.{segment_of, offset_of}
+use Rattle.gc_words.specs.Layout.{thread_of, segment_of, offset_of, IsAddress}
 use Rattle.gc_words.specs.Word.{value_of}
 use Rattle.cards.specs.Cards.{card_of, card_count}
 use Rattle.seg_chain.specs.Lists.{chain_of, link_count, with_last, moved}
@@ -119,6 +119,10 @@ pub record IsShaped (x : Start) : Type 0 where
   pub its_words : length x.words ≡ words_after x.kind x.length
   pub generation_in : x.generation ≤ 8
   pub born : 0 < x.birth
+
+-- each start has an address of the territory's thread
+abbrev pub HaveAddresses : TerritoryView → Type 0
+HaveAddresses t = (a : ℕ) (x : Start) → get t.starts a ≡ Some x → IsAddress a × (thread_of a ≡ t.thread)
 
 -- the starts with one word of one start changed
 abbrev pub put_start : FinMap nat_cmp Start → ℕ → Option Start → ℕ → ℕ → FinMap nat_cmp Start

@@ -4,7 +4,7 @@ ghost use Rattle.std.specs.Prelude.{◌≡◌, ℕ, ◌<◌, ◌↔◌, ◌/◌,
 ghost use Rattle.std.specs.FinMap as map;
 ghost use Rattle.gc_words.specs.declared.address.TheConstants.{THREADS};
 ghost use Rattle.gc_words.specs.Layout.{segment_of, offset_of};
-ghost use Rattle.territory.specs.Territories.{no_territory, words_of, with_word, IsShaped, TellsLower, AreCardsSound};
+ghost use Rattle.territory.specs.Territories.{no_territory, words_of, with_word, IsShaped, HaveAddresses, TellsLower, AreCardsSound};
 
 mod allocating;
 
@@ -92,6 +92,7 @@ impl Territory {
         requires { IsSome (map.get self.now.starts at) }
         ensures value { IfSome (map.get self.now.starts at) (λ x. result ≡ x.kind) }
         ensures shaped { IfSome (map.get self.now.starts at) IsShaped }
+        ensures addresses { HaveAddresses self.now }
     {
         let (segment, start) = place(at);
         self.pool.segment(segment).kind(start)

@@ -1,4 +1,4 @@
-use Rattle.territory.proofs.Reading.{reach_segment, at, value, shaped, length_fits}
+use Rattle.territory.proofs.Reading.{reach_segment, at, value, shaped, addresses}
 use Rattle.territory.proofs.territory.Territory.kind.Goals as goal
 use Rattle.segment.specs.Segments.{Start}
 use Rattle.std.proofs.Common.{arith}
@@ -14,3 +14,6 @@ returns-clause-value c = value (λ (x : Start). x.kind) _ _ _ _ _ _ _ (at _ _ _ 
 
 pub returns-clause-shaped : goal.returns-clause-shaped
 returns-clause-shaped c = shaped _ _ _ _ _ c.self.invariant.1 c.self.view_is c.requires
+
+pub returns-clause-addresses : goal.returns-clause-addresses
+returns-clause-addresses c = addresses _ _ _ _ c.self.invariant.0 c.self.invariant.1 c.self.view_is
