@@ -49,7 +49,7 @@ text_shown f a x closed cells queue numbers all there read = by (has_bytes x.kin
 pub line_shown : (f : Starts) (graph : values.Graph) (a : ℕ) (x : Start) (g : IsInGraph f graph a x) → IsClosed f → f a ≡ Some x → IsTrue (is_object (Some x)) →
     IsReference f (reference a) →
     (numbers : List ℕ) → AllByRecursion (IsReference f) numbers →
-    object_line (map (birth_at f) numbers) x.birth (Some (object_of f a x g.queue)) ≡ line_text f numbers (reference a) x g.cells
+    object_line (map (birth_at f) numbers) x.birth (Some (object_of f a x g.queue)) ≡ line_text f numbers a x g.cells
 line_shown f graph a x g closed here object refers numbers all =
     let words = shown_words f x g.cells in
     let there = shown_there f a x g.cells g.queue (closed.laid_out a x here) g.has_queue object in
@@ -61,6 +61,4 @@ line_shown f graph a x g closed here object refers numbers all =
     let line : List ℕ → ℕ → List ℕ → List ℕ = λ number thread text.
         number ++ codes " " ++ kind_word x.kind ++ codes " g" ++ generation_word x.generation ++ codes " t" ++ decimal thread ++ text ++ 10 ∷ [] in
     ap (λ number. line number (thread_of a) (flat_map (content_text (map (birth_at f) numbers) x.kind) (contents (object_of f a x g.queue)))) named
-    ∙ ap (λ thread. line (value_text numbers (values.object (reference a))) thread (flat_map (content_text (map (birth_at f) numbers) x.kind) (contents (object_of f a x g.queue))))
-        (ap thread_of (sym (place_of_reference a)))
-    ∙ ap (λ text. line (value_text numbers (values.object (reference a))) (thread_of (reference a / 8)) text) shown
+    ∙ ap (λ text. line (value_text numbers (values.object (reference a))) (thread_of a) text) shown

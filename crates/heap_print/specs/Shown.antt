@@ -6,6 +6,7 @@ use Rattle.gc_words.specs.declared.value.Value.TheVariants.{Fixnum, Nil, True, F
 use Rattle.gc_words.specs.Word.{value_of}
 use Rattle.gc_words.specs.Layout.{thread_of}
 use Rattle.trace_types.specs.Words.{kind_word}
+use Rattle.trace_types.specs.declared.kind.Kind.{Kind}
 use Rattle.trace_types.specs.Values.{objects_in, has_bytes, is_guardian}
 use Rattle.trace_types.specs.Printing.{with_number, value_text, byte_text, generation_word}
 use Rattle.std.specs.List.{IsDistinct}
@@ -83,11 +84,15 @@ shown_text f numbers x cells =
     if has_bytes x.kind then flat_map spaced_byte (bytes_of x.words x.length)
     else flat_map (word_text numbers) (shown_words f x cells)
 
--- the line of what starts at the place that w refers to
+-- of what starts at a place: its number, kind, generation and thread
+abbrev pub head_text : List ℕ → ℕ → Kind → ℕ → List ℕ
+head_text numbers a kind generation =
+    value_text numbers (values.object (reference a)) ++ codes " " ++ kind_word kind ++ codes " g" ++ generation_word generation
+    ++ codes " t" ++ decimal (thread_of a)
+
+-- its line
 abbrev pub line_text : Starts → List ℕ → ℕ → Start → List ℕ → List ℕ
-line_text f numbers w x cells =
-    value_text numbers (values.object w) ++ codes " " ++ kind_word x.kind ++ codes " g" ++ generation_word x.generation
-    ++ codes " t" ++ decimal (thread_of (w / 8)) ++ shown_text f numbers x cells ++ 10 ∷ []
+line_text f numbers a x cells = head_text numbers a x.kind x.generation ++ shown_text f numbers x cells ++ 10 ∷ []
 
 -- ---- what is counted
 

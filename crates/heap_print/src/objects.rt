@@ -1,17 +1,20 @@
 //! Going through one object of a heap: giving numbers to what it refers to, and printing its line.
 
-ghost use Rattle.std.specs.Prelude.{◌≡◌, ◌++◌, ◌↔◌, ℕ, List, false, Some, IsTrue, IfSome, IfOk, OnOk};
+ghost use Rattle.std.specs.Prelude.{◌≡◌, ◌++◌, ◌↔◌, ℕ, List, false, Some, IsTrue, IsSome, IfSome, IfOk, OnOk};
+ghost use Rattle.std.specs.FinMap.{get};
 ghost use Rattle.trace_types.specs.Values.{has_bytes, is_guardian};
 ghost use Rattle.segment.specs.Segments.{Start};
 ghost use Rattle.heap_store.specs.HeapView.{starts_of};
 ghost use Rattle.heap_store.specs.Queues.{Queue, HasQueue};
 ghost use Rattle.heap_store.specs.Starts.{is_object};
-ghost use Rattle.heap_print.specs.Shown.{shown_words, with_words};
+ghost use Rattle.heap_print.specs.Shown.{reference, shown_words, shown_text, head_text, line_text, with_words};
 
-use crate::contents::{number_fields, number_words, queue_words};
+use crate::contents::{number_fields, number_words, push_bytes, push_fields, push_words, queue_words};
 use crate::numbers::Numbers;
-use gc_words::Address;
+use crate::text::{push_generation, push_number, push_value, push_word};
+use gc_words::{Address, Value};
 use heap_store::Heap;
+use territory::Territory;
 use std::alloc::{AllocError, Global};
 use trace_types::Kind;
 
@@ -72,4 +75,63 @@ pub(crate) fn number_object(
         Contents::Bytes => Ok(()),
         Contents::Queue => number_words(&queue_of(alloc, heap, at)?, numbers),
     }
+}
+
+/// Appends what is printed of an object behind its thread, each after a space.
+fn push_contents(
+    alloc: Global,
+    heap: &Heap,
+    at: Address,
+    numbers: &Numbers,
+    text: &mut Vec<u8>,
+) -> Result<(), AllocError>
+    requires alive { heap.now.failed ≡ false }
+    requires there { IsTrue (is_object (starts_of heap.now at)) }
+    ensures { OnOk result ((x : Start) (cells : List ℕ) (queue : Queue) → starts_of heap.now at ≡ Some x → HasQueue (starts_of heap.now) at x cells queue → text.new.items ≡ text.old.items ++ shown_text (starts_of heap.now) numbers.now x cells) }
+{
+    let territory = heap.territory(at.thread());
+    let length = territory.length(at);
+    match Contents::of(territory.kind(at)) {
+        Contents::Fields => push_fields(territory, at, length, numbers, text),
+        Contents::Bytes => push_bytes(territory, at, length, text),
+        Contents::Queue => push_words(&queue_of(alloc, heap, at)?, numbers, text),
+    }
+}
+
+/// Appends the number, the kind, the generation and the thread of an object.
+fn push_head(
+    territory: &Territory,
+    at: Address,
+    numbers: &Numbers,
+    text: &mut Vec<u8>,
+) -> Result<(), AllocError>
+    requires { IsSome (get territory.now.starts at) }
+    ensures { OnOk result (IfSome (get territory.now.starts at) (λ x. text.new.items ≡ text.old.items ++ head_text numbers.now at x.kind x.generation)) }
+{
+    let kind = territory.kind(at);
+    let generation = territory.generation(at);
+    push_value(text, numbers, Value::Object(at))?;
+    push_word(text, b" ")?;
+    push_word(text, kind.word().as_bytes())?;
+    push_word(text, b" g")?;
+    push_generation(text, generation)?;
+    push_word(text, b" t")?;
+    push_number(text, u64::from(at.thread()))
+}
+
+/// Appends the line of an object.
+pub(crate) fn push_object(
+    alloc: Global,
+    heap: &Heap,
+    at: Address,
+    numbers: &Numbers,
+    text: &mut Vec<u8>,
+) -> Result<(), AllocError>
+    requires alive { heap.now.failed ≡ false }
+    requires there { IsTrue (is_object (starts_of heap.now at)) }
+    ensures { OnOk result ((x : Start) (cells : List ℕ) (queue : Queue) → starts_of heap.now at ≡ Some x → HasQueue (starts_of heap.now) at x cells queue → text.new.items ≡ text.old.items ++ line_text (starts_of heap.now) numbers.now at x cells) }
+{
+    push_head(heap.territory(at.thread()), at, numbers, text)?;
+    push_contents(alloc, heap, at, numbers, text)?;
+    push_word(text, b"\n")
 }
