@@ -8,3 +8,4 @@ pub mod Counted
 pub mod Chained
 pub mod Queued
 pub mod Spaced
+pub mod Going

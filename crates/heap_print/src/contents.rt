@@ -115,7 +115,7 @@ pub(crate) fn push_words(
 }
 
 /// The place of the object that a word refers to. None where it refers to none.
-fn referred(word: u64) -> Option<Address>
+pub(crate) fn referred(word: u64) -> Option<Address>
     ensures some { IfSome result (λ a. value_of word ≡ Some (Value.Object a)) }
     ensures valid { IfSome result IsAddress }
     ensures none { IfNone result ((a : ℕ) → value_of word ≢ Some (Value.Object a)) }

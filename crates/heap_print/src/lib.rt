@@ -4,7 +4,8 @@
 mod contents;
 mod numbers;
 mod objects;
+mod print;
 mod text;
 
 
-pub use numbers::Numbers;
+pub use print::print_value;

@@ -34,7 +34,8 @@ impl Numbers {
 
     /// How many objects have a number.
     pub fn count(&self) -> usize
-        ensures { result ≡ length self.now }
+        ensures count { result ≡ length self.now }
+        ensures small { result < 9223372036854775808 }
     {
         self.words.len()
     }

@@ -9,7 +9,7 @@ ghost use Rattle.heap_store.specs.Starts.{Keeps};
 ghost use Rattle.heap_store.specs.HeapView.{starts_of};
 ghost use Rattle.heap_store.specs.Changes.{HaveSoundCards};
 ghost use Rattle.heap_store.specs.Stands.{Stands};
-ghost use Rattle.heap_store.specs.Calls.{Obeys, IsLeft, operand_value};
+ghost use Rattle.heap_store.specs.Calls.{Obeys, IsLeft, IsValid, operand_value};
 ghost use Rattle.heap_store.specs.Opening.{AreNew};
 
 use crate::error::HeapError;
@@ -177,6 +177,7 @@ impl Heap {
     /// The value that the operand is, or that its register holds. Takes no memory, and has no fault.
     pub fn value_of(&self, value: Operand) -> Result<Value, HeapError>
         ensures value { IfOk result (λ v. v ≡ operand_value self.now.registers value) }
+        ensures valid { OnOk result (IsValid self.now) }
         ensures failed { (result ≡ Err HeapError.Failed) ↔ (self.now.failed ≡ true) }
         ensures only_failed { OnErr result (self.now.failed ≡ true) }
     {
