@@ -12,3 +12,4 @@ pub mod Getting
 pub mod References
 pub mod Putting
 pub mod Cards
+pub mod Filling

@@ -7,6 +7,7 @@ mod locks;
 mod notes;
 mod parts;
 mod registry;
+mod shape;
 
 pub use error::{Checked, HeapError};
 pub use heap::Heap;
