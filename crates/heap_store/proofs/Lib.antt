@@ -13,3 +13,5 @@ pub mod References
 pub mod Putting
 pub mod Cards
 pub mod Filling
+pub mod Done
+pub mod Consing

@@ -4,6 +4,7 @@
 mod error;
 mod heap;
 mod locks;
+mod creating;
 mod notes;
 mod parts;
 mod registry;
