@@ -15,3 +15,5 @@ pub mod Cards
 pub mod Filling
 pub mod Done
 pub mod Consing
+pub mod Packing
+pub mod Seen
