@@ -1,15 +1,15 @@
 -- The fields of an object in the words of its start.
-use Rattle.std.specs.Prelude.{◌≡◌, ℕ, pos, false, Bool, true, not, ◌&&◌, nat_lt, List, [], slice_index, slice_index_or, Option, Some, None, Ok, Err, if◌then◌else◌}
+use Rattle.std.specs.Prelude.{◌≡◌, ℕ, ◌/◌, pos, false, Bool, nat_lt, List, slice_index, slice_index_or, Option, Some, None, Err, if◌then◌else◌}
 use Rattle.gc_words.specs.declared.value.Value.{Value}
 use Rattle.gc_words.specs.declared.value.Value.TheVariants as word
 use Rattle.gc_words.specs.Word.{value_of}
-use Rattle.trace_types.specs.declared.fault.Fault.{Fault}
-use Rattle.trace_types.specs.declared.fault.Fault.TheVariants.{WrongKind, BadIndex}
+use Rattle.trace_types.specs.declared.kind.Kind.{Kind}
+use Rattle.trace_types.specs.declared.fault.Fault.TheVariants.{WrongKind}
 use Rattle.trace_types.specs.Values.{is_guardian, has_bytes}
 use Rattle.trace_types.specs.States.{State, register_value}
 use Rattle.trace_types.specs.Steps.{fielded_of}
 use Rattle.segment.specs.Segments.{Start}
-use Rattle.heap_store.specs.Starts.{is_cell, byte_at, object_of}
+use Rattle.heap_store.specs.Starts.{Starts, is_cell, is_object, byte_at}
 use Rattle.heap_store.specs.HeapView.{HeapView, starts_of}
 use Rattle.heap_store.specs.Stands.{Stands}
 
@@ -44,3 +44,16 @@ field_in (Some x) index =
 abbrev pub is_byte_word : Value → Bool
 is_byte_word (word.Fixnum (pos n)) = nat_lt n 256
 is_byte_word _ = false
+
+-- the word after the header that has the field
+abbrev pub word_index : Kind → ℕ → ℕ
+word_index k index = if has_bytes k then index / 8 else index
+
+abbrev pub generation_or_255 : Option Start → ℕ
+generation_or_255 None = 255
+generation_or_255 (Some x) = x.generation
+
+-- the generation of what the value refers to, or 255
+abbrev pub refers_of : Starts → Value → ℕ
+refers_of f (word.Object a) = generation_or_255 (f a)
+refers_of f _ = 255

@@ -2,6 +2,7 @@
 #![tactic(auto)]
 
 mod error;
+mod fields;
 mod heap;
 mod locks;
 mod creating;
