@@ -17,3 +17,5 @@ pub mod Done
 pub mod Consing
 pub mod Packing
 pub mod Seen
+pub mod PuttingFields
+pub mod Generations
