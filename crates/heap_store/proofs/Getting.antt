@@ -173,7 +173,7 @@ get_from : State → ℕ → ℕ → ℕ × Object → Answer
 get_from s d i o = within o.1 i (silently (with_register s d (field_at o.1 i)))
 
 module _ (h : HeapView) (s : State) (stands : Stands h s) (d r i : ℕ) where
-  count_of : (a : ℕ) (is : IsFielded h r a) → length (fields_of (starts_of h) is.start) ≡ is.start.length
+  pub count_of : (a : ℕ) (is : IsFielded h r a) → length (fields_of (starts_of h) is.start) ≡ is.start.length
   count_of a is = let laid = stands.closed.laid_out a is.start is.here in fields_count (starts_of h) is.start.kind is.start.length is.start.words is.no_cell laid.sized laid.words
 
   got_from : (a : ℕ) (is : IsFielded h r a) (b : Bool) → nat_lt i (length (fields_of (starts_of h) is.start)) ≡ b → (fielded_of s (register_value s r) >>= get_from s d i)

@@ -19,3 +19,4 @@ pub mod Packing
 pub mod Seen
 pub mod PuttingFields
 pub mod Generations
+pub mod Sets

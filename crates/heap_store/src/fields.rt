@@ -3,6 +3,7 @@
 ghost use Rattle.std.specs.Prelude.{◌≡◌, ◌≢◌, ◌↔◌, ℕ, ◌<◌, ◌≤◌, pos, true, false, length, slice_get, slice_index_or, Some, Ok, Err, IfOk, IfSome, OnOk, OnErr, option_map, IsSome, IsTrue, MatchOption};
 ghost use Rattle.std.specs.FinMap.{get};
 ghost use Rattle.gc_words.specs.Layout.{thread_of};
+ghost use Rattle.gc_words.specs.declared.address.TheConstants.{THREADS};
 ghost use Rattle.gc_words.specs.declared.value.Value.{Value};
 ghost use Rattle.gc_words.specs.Word.{IsInRange};
 ghost use Rattle.trace_types.specs.Values.{has_bytes, object_of_value};
@@ -70,12 +71,12 @@ impl Heap {
             return Err(HeapError::Fault(Fault::WrongKind));
         };
         let value = self.operand(value);
-        let refers = self.refers(value);
-        let territory = &mut self.territories[usize::from(at.thread())];
-        match put_field(territory, at, index, value, refers) {
-            Ok(()) => Ok(()),
-            Err(fault) => Err(HeapError::Fault(fault)),
+        let refers = self.refers(&value);
+        let territory = &mut self.territories[index_of(at)];
+        if let Err(fault) = put_field(territory, at, index, value, refers) {
+            return Err(HeapError::Fault(fault));
         }
+        Ok(())
     }
 
     /// The generation of the object that the value is, and none of an immediate. Takes no memory, and has no fault.
@@ -95,12 +96,12 @@ impl Heap {
     }
 
     /// The generation of what the value refers to, or 255.
-    fn refers(&self, value: Value) -> u8
+    fn refers(&self, value: &Value) -> u8
         requires alive { self.now.failed ≡ false }
-        requires there { IsThere (starts_of self.now) value }
-        ensures { result ≡ refers_of (starts_of self.now) value }
+        requires there { IsThere (starts_of self.now) value.now }
+        ensures { result ≡ refers_of (starts_of self.now) value.now }
     {
-        match value {
+        match *value {
             Value::Object(at) => self.home(at).generation(at),
             _ => NO_MARK,
         }
@@ -140,8 +141,15 @@ impl Heap {
         ensures start { get result.now.starts at ≡ starts_of self.now at }
         ensures there { IsSome (get result.now.starts at) }
     {
-        &self.territories[usize::from(at.thread())]
+        &self.territories[index_of(at)]
     }
+}
+
+/// Which territory has the object.
+fn index_of(at: Address) -> usize
+    ensures { (result ≡ thread_of at) × (result < THREADS) }
+{
+    usize::from(at.thread())
 }
 
 /// Puts a value into a field of an object. `refers` is the generation of what it refers to, or 255. The fault is
