@@ -20,3 +20,4 @@ pub mod Seen
 pub mod PuttingFields
 pub mod Generations
 pub mod Sets
+pub mod SetsSeen

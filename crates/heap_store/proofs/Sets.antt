@@ -43,7 +43,7 @@ use Rattle.heap_store.proofs.Getting.{fielded_is, count_of, field_room}
 -- ---- the step
 
 -- the rest of the step, once the object is found
-abbrev set_from : State → ℕ → values.Value → ℕ × Object → Answer
+abbrev pub set_from : State → ℕ → values.Value → ℕ × Object → Answer
 set_from s i v o = cond (has_bytes o.1.kind && not (is_byte v)) (Err Fault.WrongKind) (within o.1 i (silently (with_field s o.0 o.1 i v)))
 
 byte_read : (f : Starts) (v : Value) → is_byte (read f v) ≡ is_byte_word v
