@@ -32,12 +32,12 @@ module _ (h : HeapView) (s : State) (stands : Stands h s) (sound : HaveSoundCard
 
   -- with a new start
   pub made_cards : get old.starts a ≡ None
-      → ((b a : ℕ → Option ℕ) (c : ℕ) → IsToldMore b a old c → AreCardsSound b old → AreCardsSound a new)
+      → ((told now : ℕ → Option ℕ) → IsToldMore told now old a → AreCardsSound told old → AreCardsSound now new)
       → HaveSoundCards (set h.territories i new)
   made_cards free keeps j t e =
       elim (cases_eq j i) [
         | inl same ↦ subst (AreCardsSound after) (this_territory h.territories i old new found stands.territories a x changed j t same e)
-            (keeps before after a (record {
+            (keeps before after (record {
               others = others_told;
               alone = λ b index y there refers. none_there (starts_of h a) (here_before ∙ free) (refers_there h s stands i old b index a y found there refers);
             }) (sound i old found))

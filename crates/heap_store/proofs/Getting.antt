@@ -1,6 +1,8 @@
 -- A field read.
-use Rattle.std.proofs.Common.{◌≡◌, ℕ, zero, suc, ◌<◌, ◌≤◌, ◌^◌, ◌/◌, ◌%◌, Bool, true, false, not, cond, pos, nat_lt, List, [], ◌∷◌, length, map, set, get_or, IsTrue, Option, Some, None, Ok, Err, refl, sym, ◌∙◌, ap, subst, arith}
+use Rattle.std.proofs.Common.{◌≡◌, ℕ, ℤ, w64, to_z, of_z, IsSome, IfSome, inl, inr, ◌⊎◌, zero, suc, ◌<◌, ◌≤◌, ◌^◌, ◌/◌, ◌%◌, Bool, true, false, not, cond, pos, nat_lt, List, [], ◌∷◌, length, map, set, get_or, IsTrue, Option, Some, None, Ok, Err, refl, sym, ◌∙◌, ap, subst, arith}
 use Rattle.std.specs.List.{AllByRecursion}
+use Rattle.std.specs.Int.{to_le_bytes}
+use Rattle.std.proofs.lemmas.Int.{to_z-of_z}
 use Rattle.std.proofs.lemmas.List.FromFn.{length-map-range_with_len}
 use Rattle.std.proofs.lemmas.Bool.{false≢true, lt-ltb, le-ltb, cases_Bool, cases_lt}
 use Rattle.gc_words.specs.declared.value.Value.{Value}
@@ -19,11 +21,12 @@ use Rattle.trace_types.specs.Steps.{found_object, fielded_of, within, step}
 use Rattle.segment.specs.Layout.{words_after, HasLength}
 use Rattle.segment.specs.Segments.{Start}
 use Rattle.heap_store.specs.declared.error.HeapError.{HeapError}
-use Rattle.heap_store.specs.Starts.{Starts, is_cell, is_object, birth_of, has_values, read, read_option, read_word, IsThere, IsThereOption, IsWordThere, byte_at, bytes_of, fields_of, object_of, IsLaidOut}
+use Rattle.heap_store.specs.Starts.{Starts, is_cell, is_object, birth_of, has_values, read, read_option, read_word, IsThere, IsThereOption, IsWordThere, word_bytes, byte_at, bytes_of, fields_of, object_of, IsLaidOut}
+use Rattle.territory.specs.Territories.{words_of}
 use Rattle.heap_store.specs.HeapView.{HeapView, starts_of}
 use Rattle.heap_store.specs.Stands.{Stands}
 use Rattle.heap_store.specs.Calls.{Obeys, IsValid}
-use Rattle.heap_store.specs.Fields.{place_in, IsFielded, HasNoFields, or_nil, field_in}
+use Rattle.heap_store.specs.Fields.{place_in, IsFielded, HasNoFields, or_nil, field_in, word_index}
 use Rattle.heap_store.proofs.Kept.{at_index, some_is}
 use Rattle.heap_store.proofs.Bytes.{byte_of_bytes, bytes_small}
 use Rattle.heap_store.proofs.Making.{fields_by, fields_count}
@@ -170,7 +173,7 @@ get_from : State → ℕ → ℕ → ℕ × Object → Answer
 get_from s d i o = within o.1 i (silently (with_register s d (field_at o.1 i)))
 
 module _ (h : HeapView) (s : State) (stands : Stands h s) (d r i : ℕ) where
-  count_of : (a : ℕ) (is : IsFielded h r a) → length (fields_of (starts_of h) is.start) ≡ is.start.length
+  pub count_of : (a : ℕ) (is : IsFielded h r a) → length (fields_of (starts_of h) is.start) ≡ is.start.length
   count_of a is = let laid = stands.closed.laid_out a is.start is.here in fields_count (starts_of h) is.start.kind is.start.length is.start.words is.no_cell laid.sized laid.words
 
   got_from : (a : ℕ) (is : IsFielded h r a) (b : Bool) → nat_lt i (length (fields_of (starts_of h) is.start)) ≡ b → (fielded_of s (register_value s r) >>= get_from s d i)
@@ -197,3 +200,104 @@ module _ (h : HeapView) (s : State) (stands : Stands h s) (d r i : ℕ) where
   pub gets_nothing : (line : ℕ) → HasNoFields h r → Obeys s (step s line (Get d r i)) (Err (HeapError.Fault Fault.WrongKind)) h
   unfolding step get_from
   gets_nothing line none = subst (λ answer. Obeys s answer (Err (HeapError.Fault Fault.WrongKind)) h) (sym (ap (λ o. o >>= get_from s d i) (none s stands))) (refl, stands)
+
+-- ---- what the calls of a territory tell
+
+-- a byte as a fixnum
+pub byte_got : (o : Option Start) (i w : ℕ) (bytes : List ℕ) (z : ℤ) (k : Kind) → z ≡ pos (get_or bytes (i % 8) 0) → bytes ≡ to_le_bytes w64 w → w ≡ get_or (words_of o) (i / 8) 0
+    → IsSome o → IfSome o (λ x. k ≡ x.kind) → (k ≡ kind.Bytes) ⊎ (k ≡ kind.ImmBytes) → word.Fixnum (to_z w64 (of_z w64 z)) ≡ field_in o i
+unfolding word_bytes
+byte_got None i w bytes z k ez eb ew there same is = absurd (false≢true there)
+byte_got (Some x) i w bytes z k ez eb ew there same is =
+    let byte : get_or bytes (i % 8) 0 ≡ byte_at x.words i = ap (λ bs. get_or bs (i % 8) 0) (eb ∙ ap (to_le_bytes w64) ew) in
+    let small = bytes_small (get_or x.words (i / 8) 0) (i % 8) in
+    ap (λ v. word.Fixnum (to_z w64 (of_z w64 v))) (ez ∙ ap pos byte)
+    ∙ ap word.Fixnum (to_z-of_z w64 (pos (byte_at x.words i)) (omega (arith, small)))
+    ∙ ap (λ b. cond b (word.Fixnum (pos (byte_at x.words i))) (or_nil (value_of (get_or x.words i 0)))) (sym (ap has_bytes (sym same) ∙ elim is [ | inl e ↦ ap has_bytes e | inr e ↦ ap has_bytes e ]))
+
+-- a guardian has no fields
+pub guardian_none : (h : HeapView) (r a : ℕ) (o : Option Start) (k : Kind) (v : Option ℕ) → v ≡ place_in (get_or h.registers r word.Nil) → v ≡ Some a → IsTrue (is_object (starts_of h a)) → o ≡ starts_of h a → IfSome o (λ x. k ≡ x.kind)
+    → (k ≡ kind.Guard) ⊎ (k ≡ kind.OrderedGuard) → HasNoFields h r
+guardian_none h r a o k v place is there here same guard s stands = by_start o here same
+  where
+    holds : get_or h.registers r word.Nil ≡ word.Object a
+    holds = is_holding (get_or h.registers r word.Nil) a (sym place ∙ is)
+
+    by_start : (p : Option Start) → p ≡ starts_of h a → IfSome p (λ x. k ≡ x.kind) → fielded_of s (register_value s r) ≡ Err Fault.WrongKind
+    by_start None e k_is = absurd (false≢true (ap is_object e ∙ there))
+    by_start (Some x) e k_is =
+        guardian_has_none h s stands r a x holds (sym e) (not_true (is_cell x.kind) (ap is_object e ∙ there))
+        (ap is_guardian (sym k_is) ∙ elim guard [ | inl g ↦ ap is_guardian g | inr g ↦ ap is_guardian g ])
+      where
+        not_true : (b : Bool) → not b ≡ true → b ≡ false
+        not_true true n = absurd (false≢true n)
+        not_true false n = refl
+
+-- what `get` leaves, where it is below the length
+pub gets : (h : HeapView) (s : State) (line d r i a : ℕ) (v : Value) (o : Option Start) (len : ℕ) → IsFielded h r a → o ≡ starts_of h a → IfSome o (λ x. len ≡ x.length) → i < len → v ≡ field_in o i → Stands h s
+    → Obeys s (step s line (Get d r i)) (Ok tt) (record h { registers = set h.registers d v })
+gets h s line d r i a v o len is here same less value stands =
+    let start : o ≡ Some is.start = here ∙ is.here in
+    let length_is : len ≡ is.start.length = subst (λ p. IfSome p (λ x. len ≡ x.length)) start same in
+    subst (λ w. Obeys s (step s line (Get d r i)) (Ok tt) (record h { registers = set h.registers d w })) (sym (value ∙ ap (λ p. field_in p i) start))
+    (gets_here h s stands d r i line a is (omega (arith, less, length_is)))
+
+pub gets_past : (h : HeapView) (s : State) (line d r i a : ℕ) (o : Option Start) (len : ℕ) → IsFielded h r a → o ≡ starts_of h a → IfSome o (λ x. len ≡ x.length) → len ≤ i → Stands h s
+    → Obeys s (step s line (Get d r i)) (Err (HeapError.Fault Fault.BadIndex)) h
+gets_past h s line d r i a o len is here same past stands =
+    let length_is : len ≡ is.start.length = subst (λ p. IfSome p (λ x. len ≡ x.length)) (here ∙ is.here) same in
+    gets_beyond h s stands d r i line a is (omega (arith, past, length_is))
+
+-- the state that a read leaves
+pub got_valid : (h : HeapView) (valid : IsValid h) (d r i a : ℕ) (v : Value) (o : Option Start) (len : ℕ) → IsFielded h r a → o ≡ starts_of h a → IfSome o (λ x. len ≡ x.length) → i < len → v ≡ field_in o i
+    → IsValid (record h { registers = set h.registers d v })
+got_valid h valid d r i a v o len is here same less value =
+    let start : o ≡ Some is.start = here ∙ is.here in
+    let length_is : len ≡ is.start.length = subst (λ p. IfSome p (λ x. len ≡ x.length)) start same in
+    let laid = valid.stands.closed.laid_out a is.start is.here in
+    let f : Starts = starts_of h in
+    subst (λ w. IsValid (record h { registers = set h.registers d w })) (sym (value ∙ ap (λ p. field_in p i) start)) (record {
+      state = with_register valid.state d (read f (field_in (Some is.start) i));
+      stands = register_changed h valid.state valid.stands d (field_in (Some is.start) i) (field_there f is.start i is.no_cell is.no_guardian laid (omega (arith, less, length_is)));
+      cards = valid.cards;
+    })
+
+-- for a heap that is seen so
+pub gets_seen : (h seen : HeapView) → h ≡ seen → (n d r i a : ℕ) (v : Value) (o : Option Start) (len : ℕ) → n ≡ d → IsFielded seen r a → o ≡ starts_of seen a → IfSome o (λ x. len ≡ x.length) → i < len → v ≡ field_in o i
+    → (s : State) (line : ℕ) → Stands seen s → Obeys s (step s line (Get d r i)) (Ok tt) (record h { registers = set h.registers n v })
+gets_seen h seen same n d r i a v o len number is here length less value s line stands =
+    subst (λ m. Obeys s (step s line (Get d r i)) (Ok tt) (record h { registers = set h.registers m v })) (sym number)
+    (subst (λ (w : HeapView). Obeys s (step s line (Get d r i)) (Ok tt) (record w { registers = set w.registers d v })) (sym same) (gets seen s line d r i a v o len is here length less value stands))
+
+pub got_seen : (h seen : HeapView) → h ≡ seen → (h.failed ≡ false → IsValid h) → (n d r i a : ℕ) (v : Value) (o : Option Start) (len : ℕ) → n ≡ d → IsFielded seen r a → o ≡ starts_of seen a → IfSome o (λ x. len ≡ x.length) → i < len → v ≡ field_in o i
+    → h.failed ≡ false → IsValid (record h { registers = set h.registers n v })
+got_seen h seen same invariant n d r i a v o len number is here length less value alive =
+    subst (λ m. IsValid (record h { registers = set h.registers m v })) (sym number)
+    (subst (λ (w : HeapView). IsValid (record w { registers = set w.registers d v })) (sym same) (got_valid seen (subst IsValid same (invariant alive)) d r i a v o len is here length less value))
+
+-- an index below the length is that of a word
+pub field_room : (h : HeapView) (valid : IsValid h) (r a i len : ℕ) (o : Option Start) → IsFielded h r a → o ≡ starts_of h a → IfSome o (λ x. len ≡ x.length) → i < len → IfSome o (λ x. word_index x.kind i < length x.words)
+field_room h valid r a i len o is here same less =
+    subst (λ p. IfSome p (λ x. word_index x.kind i < length x.words)) (sym start) (room is.start.kind is.start.length is.start.words is.no_cell is.no_guardian laid.sized laid.words (omega (arith, less, length_is)))
+  where
+    start : o ≡ Some is.start
+    start = here ∙ is.here
+
+    length_is : len ≡ is.start.length
+    length_is = subst (λ p. IfSome p (λ x. len ≡ x.length)) start same
+
+    laid : IsLaidOut (starts_of h) is.start
+    laid = valid.stands.closed.laid_out a is.start is.here
+
+    room : (k : Kind) (n : ℕ) (ws : List ℕ) → is_cell k ≡ false → is_guardian k ≡ false → HasLength k n → length ws ≡ words_after k n → i < n → word_index k i < length ws
+    room kind.Pair n ws lacks plain sized count below = omega (arith, sized, count, below)
+    room kind.Weak n ws lacks plain sized count below = omega (arith, sized, count, below)
+    room kind.Eph n ws lacks plain sized count below = omega (arith, sized, count, below)
+    room kind.Boxed n ws lacks plain sized count below = omega (arith, sized, count, below)
+    room kind.Vector n ws lacks plain sized count below = omega (arith, sized, count, below)
+    room kind.ImmVector n ws lacks plain sized count below = omega (arith, sized, count, below)
+    room kind.Bytes n ws lacks plain sized count below = omega (arith, sized, count, below)
+    room kind.ImmBytes n ws lacks plain sized count below = omega (arith, sized, count, below)
+    room kind.Guard n ws lacks plain sized count below = absurd (false≢true (sym plain))
+    room kind.OrderedGuard n ws lacks plain sized count below = absurd (false≢true (sym plain))
+    room kind.Cell n ws lacks plain sized count below = absurd (false≢true (sym lacks))

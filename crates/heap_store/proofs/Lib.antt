@@ -12,3 +12,12 @@ pub mod Getting
 pub mod References
 pub mod Putting
 pub mod Cards
+pub mod Filling
+pub mod Done
+pub mod Consing
+pub mod Packing
+pub mod Seen
+pub mod PuttingFields
+pub mod Generations
+pub mod Sets
+pub mod SetsSeen

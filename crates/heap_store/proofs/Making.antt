@@ -183,7 +183,7 @@ module _ (h : HeapView) (s : State) (stands : Stands h s) (old new : TerritoryVi
   after = starts_in made_in
 
   -- no start has a birth above the newest line
-  fresh : h.last < x.birth → (b : ℕ) (y : Start) → before b ≡ Some y → y.birth ≢ x.birth
+  pub fresh : h.last < x.birth → (b : ℕ) (y : Start) → before b ≡ Some y → y.birth ≢ x.birth
   fresh above b y e same = let was = stands.born b y e in absurd (omega (arith, was.1, same))
 
   -- a new object of the current thread

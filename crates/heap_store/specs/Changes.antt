@@ -1,5 +1,5 @@
 -- What a call does to a territory and to the starts of a heap.
-use Rattle.std.specs.Prelude.{◌≡◌, ◌≢◌, ℕ, false, List, ◌++◌, drop, replicate, IsSome, Option, Some, None, slice_get}
+use Rattle.std.specs.Prelude.{◌≡◌, ◌≢◌, ℕ, ◌≤◌, false, List, ◌++◌, length, drop, replicate, IsSome, Option, Some, None, slice_get}
 use Rattle.std.specs.FinMap.{get}
 use Rattle.std.specs.Option.{option_map}
 use Rattle.gc_words.specs.Layout.{thread_of}
@@ -32,6 +32,14 @@ pub record IsMade (old new : TerritoryView) (a : ℕ) (x : Start) : Type 0 where
 pub record IsRewritten (old new : TerritoryView) (a : ℕ) (x : Start) (words : List ℕ) : Type 0 where
   pub changed : IsStartChanged old new a (record x { words = words })
   pub sound : (generation_at : ℕ → Option ℕ) → AreCardsSound generation_at old → AreCardsSound generation_at new
+
+-- a start of generation 0 with so many words
+pub record HasYoung (t : TerritoryView) (a count : ℕ) : Type 0 where
+  pub start : Start
+  pub here : get t.starts a ≡ Some start
+  pub its_thread : thread_of a ≡ t.thread
+  pub young : start.generation ≡ 0
+  pub room : count ≤ length start.words
 
 -- a new object of generation 0
 abbrev pub new_start : Kind → ℕ → ℕ → List ℕ → Start

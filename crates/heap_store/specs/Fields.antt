@@ -1,15 +1,18 @@
 -- The fields of an object in the words of its start.
-use Rattle.std.specs.Prelude.{◌≡◌, ℕ, pos, false, Bool, true, not, ◌&&◌, nat_lt, List, [], slice_index, slice_index_or, Option, Some, None, Ok, Err, if◌then◌else◌}
+use Rattle.std.specs.Prelude.{◌≡◌, ℕ, ◌/◌, ◌%◌, ◌<◌, pos, true, false, Bool, not, ◌&&◌, nat_lt, List, slice_index, slice_index_or, slice_set, Option, Some, None, Result, Ok, Err, if◌then◌else◌}
+use Rattle.std.specs.FinMap.{get}
 use Rattle.gc_words.specs.declared.value.Value.{Value}
 use Rattle.gc_words.specs.declared.value.Value.TheVariants as word
 use Rattle.gc_words.specs.Word.{value_of}
+use Rattle.trace_types.specs.declared.kind.Kind.{Kind}
 use Rattle.trace_types.specs.declared.fault.Fault.{Fault}
 use Rattle.trace_types.specs.declared.fault.Fault.TheVariants.{WrongKind, BadIndex}
 use Rattle.trace_types.specs.Values.{is_guardian, has_bytes}
 use Rattle.trace_types.specs.States.{State, register_value}
 use Rattle.trace_types.specs.Steps.{fielded_of}
 use Rattle.segment.specs.Segments.{Start}
-use Rattle.heap_store.specs.Starts.{is_cell, byte_at, object_of}
+use Rattle.territory.specs.Territories.{TerritoryView, with_word, TellsLower, AreCardsSound}
+use Rattle.heap_store.specs.Starts.{Starts, is_cell, word_bytes, byte_at}
 use Rattle.heap_store.specs.HeapView.{HeapView, starts_of}
 use Rattle.heap_store.specs.Stands.{Stands}
 
@@ -44,3 +47,40 @@ field_in (Some x) index =
 abbrev pub is_byte_word : Value → Bool
 is_byte_word (word.Fixnum (pos n)) = nat_lt n 256
 is_byte_word _ = false
+
+-- the word after the header that has the field
+abbrev pub word_index : Kind → ℕ → ℕ
+word_index k index = if has_bytes k then index / 8 else index
+
+abbrev pub generation_or_255 : Option Start → ℕ
+generation_or_255 None = 255
+generation_or_255 (Some x) = x.generation
+
+-- the generation of what the value refers to, or 255
+abbrev pub refers_of : Starts → Value → ℕ
+refers_of f (word.Object a) = generation_or_255 (f a)
+refers_of f _ = 255
+
+-- ---- a field changed
+
+-- what forbids to put the value into the field of an index
+abbrev pub put_fault : Start → ℕ → Value → Option Fault
+put_fault x index v =
+    if has_bytes x.kind && not (is_byte_word v) then Some WrongKind else (if nat_lt index x.length then None else Some BadIndex)
+
+-- The field has the value now: the word that has it is another one, and its card is marked with `refers`. Into a byte
+-- object goes a byte, which refers to nothing.
+pub record IsPut (old new : TerritoryView) (a : ℕ) (x : Start) (index : ℕ) (v : Value) (refers : ℕ) : Type 0 where
+  pub within : index < x.length
+  pub put_word : ℕ
+  pub mark : ℕ
+  pub put : new ≡ with_word old a (word_index x.kind index) put_word mark
+  pub sound : (generation_at : ℕ → Option ℕ) → TellsLower generation_at (get old.starts a) put_word mark
+      → AreCardsSound generation_at old → AreCardsSound generation_at new
+  pub value : has_bytes x.kind ≡ false → (value_of put_word ≡ Some v) × (mark ≡ refers)
+  pub byte : has_bytes x.kind ≡ true
+      → (b : ℕ) × (b < 256) × (v ≡ word.Fixnum (pos b)) × (word_bytes put_word ≡ slice_set (word_bytes (slice_index x.words (index / 8))) (index % 8) b)
+
+abbrev pub Puts : TerritoryView → TerritoryView → ℕ → Start → ℕ → Value → ℕ → Result (Unit {0}) Fault → Type 0
+Puts old new a x index v refers (Ok _) = IsPut old new a x index v refers
+Puts old new a x index v refers (Err f) = (new ≡ old) × (put_fault x index v ≡ Some f)

@@ -10,4 +10,4 @@ pub mod Registries
 pub mod Opening
 pub mod Parts
 pub mod Fields
-pub mod Later
+pub mod Shapes

@@ -2,11 +2,14 @@
 #![tactic(auto)]
 
 mod error;
+mod fields;
 mod heap;
 mod locks;
+mod creating;
 mod notes;
 mod parts;
 mod registry;
+mod shape;
 
 pub use error::{Checked, HeapError};
 pub use heap::Heap;
