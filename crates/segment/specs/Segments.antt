@@ -146,8 +146,8 @@ emptied p = record p { top = 0; words = []; births = []; marks = [] }
 -- given back: free, and the memory of a large object is let go
 abbrev pub given_back : Segment → Segment
 given_back p =
-    let q : Segment = record p { role = Free; was_held = false; is_dirty = false } in
-    if length p.births == 1 then emptied q else q
+    let q : Segment = if length p.births == 1 then emptied p else p in
+    record q { role = Free; was_held = false; is_dirty = false }
 
 -- with a new object at the top: its first word, size and birth
 abbrev pub grown : Segment → ℕ → ℕ → ℕ → Segment
