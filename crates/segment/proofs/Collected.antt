@@ -1,11 +1,11 @@
 -- What a collection does with a segment leaves it sound, and what starts in it then.
-use Rattle.std.proofs.Common.{◌≡◌, ◌≢◌, ℕ, zero, suc, ◌+◌, ◌*◌, ◌/◌, ◌<◌, ◌≤◌, min, Bool, true, false, cond, eqb, List, [], ◌∷◌, length, get_or, set, replicate, Option, Some, None, refl, sym, ◌∙◌, ap, subst, arith, inl, inr, get_or-set_same, get_or-set_other}
-use Rattle.std.proofs.lemmas.List.{ext_get_or, get_or_past, length-set, length-replicate, get_or-replicate}
+use Rattle.std.proofs.Common.{◌≡◌, ◌≢◌, ℕ, zero, suc, ◌*◌, ◌<◌, ◌≤◌, min, Bool, true, false, cond, eqb, List, [], ◌∷◌, length, get_or, replicate, Some, None, refl, sym, ◌∙◌, ap, arith, inl, inr, get_or-set_same}
+use Rattle.std.proofs.lemmas.List.{get_or_past, length-set, length-replicate, get_or-replicate}
 use Rattle.std.proofs.lemmas.Bool.{cases_eq, cases_lt}
 use Rattle.gc_words.specs.declared.address.TheConstants.{OFFSETS}
 use Rattle.cards.specs.Cards.{card_of, card_count}
 use Rattle.segment.specs.declared.space.Space.{Space}
-use Rattle.segment.specs.declared.segment.Role.TheVariants.{Free, Current, From}
+use Rattle.segment.specs.declared.segment.Role.TheVariants.{Free, From}
 use Rattle.segment.specs.Segments.{Start, Segment, object_at, is_free, spot, IsStart, IsLaid, IsSound, vacant, opened, marked_at, set_aside, held_at, marked_births, kept_marked, in_generation, kept_spot, emptied, given_back}
 use Rattle.segment.proofs.Spots.{spot_is, spot_start, spot_none, spot_same, zero_at}
 

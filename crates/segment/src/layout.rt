@@ -88,8 +88,8 @@ pub(crate) fn length_of(space: Space, first: u64) -> u64
     }
 }
 
-/// The words after the header of an object of this kind and length.
-fn words_after(kind: Kind, length: u64) -> u64
+/// The words after the header of an object of this kind and length, for a length below 2^56.
+pub fn words_after(kind: Kind, length: u64) -> u64
     requires { length < 72057594037927936 }
     ensures value { result ≡ words_after kind length }
     ensures range { result ≤ length + 3 }
