@@ -14,3 +14,5 @@ pub mod Reading
 pub mod Allocated
 pub mod Putting
 pub mod Worded
+pub mod Cells
+pub mod Dirties
