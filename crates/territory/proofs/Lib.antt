@@ -16,3 +16,5 @@ pub mod Putting
 pub mod Worded
 pub mod Cells
 pub mod Dirties
+pub mod Nexts
+pub mod Showing

@@ -1,11 +1,11 @@
 -- What contracts see of a territory.
-use Rattle.std.specs.Prelude.{◌≡◌, ◌≢◌, ℕ, ◌+◌, ◌*◌, ◌/◌, ◌<◌, ◌≤◌, ◌==◌, Bool, true, false, if◌then◌else◌, nat_lt, List, [], ◌∷◌, length, min, replicate, slice_get, slice_index, slice_index_or, slice_set, ◌++◌, ◌%◌, ◌⊎◌, Option, Some, None, option_map, IsSome, IsNone, IfSome, Contains, ◌&&◌, refl}
-use Rattle.std.specs.List.{list_any}
+use Rattle.std.specs.Prelude.{◌≡◌, ◌≢◌, ℕ, ◌+◌, ◌*◌, ◌/◌, ◌<◌, ◌≤◌, ◌==◌, Bool, true, false, if◌then◌else◌, nat_lt, List, [], ◌∷◌, length, map, is_some, min, replicate, slice_get, slice_index, slice_index_or, slice_set, ◌++◌, ◌%◌, ◌⊎◌, Option, Some, None, option_map, IsSome, IsNone, IfSome, Contains, ◌&&◌, refl}
+use Rattle.std.specs.List.{list_any, filter, flat_map, range_with_len}
 use Rattle.std.specs.Ordering.{nat_cmp}
 use Rattle.std.specs.FinMap.{FinMap, code, get, insert, empty}
 use Rattle.std.specs.Coded.{Coded, code_by, coded×, coded_ℕ, coded_bool, coded_list, coded_option}
 use Rattle.gc_words.specs.declared.value.Value.TheVariants as value
-use Rattle.gc_words.specs.Layout.{segment_of, offset_of}
+use Rattle.gc_words.specs.Layout.{address_of, segment_of, offset_of}
 use Rattle.gc_words.specs.Word.{value_of}
 use Rattle.cards.specs.Cards.{card_of, card_count}
 use Rattle.seg_chain.specs.Lists.{chain_of, link_count, times, with_last, moved}
@@ -245,6 +245,24 @@ pub record AreDirtyOnes (t : TerritoryView) : Type 0 where
 -- r is what comes after n in a list
 abbrev pub IsNext : List ℕ → ℕ → Option ℕ → Type 0
 IsNext xs n r = (k : ℕ) → slice_get xs k ≡ Some n → r ≡ slice_get xs (k + 1)
+
+-- ---- the list of the starts of a generation
+-- the segments of a generation, and then its from-segments
+abbrev pub numbers_of : List (List ℕ) → ℕ → List ℕ
+numbers_of lists generation = chain_of lists (1 + generation) ++ chain_of lists (10 + generation)
+
+-- the starts of a segment, in ascending order
+unfoldable pub starts_in : TerritoryView → ℕ → List ℕ
+starts_in t n = filter (λ a. is_some (get t.starts a)) (map (λ k. address_of t.thread n (2 * k)) (range_with_len 0 (words_in (segment_at t n) / 2)))
+
+unfoldable pub starts_of_generation : TerritoryView → ℕ → List ℕ
+starts_of_generation t generation = flat_map (starts_in t) (numbers_of t.lists generation)
+
+-- the list has the starts of the generation, each once
+pub record AreItsStarts (t : TerritoryView) (generation : ℕ) (list : List ℕ) : Type 0 where
+  pub starts : (a : ℕ) → Contains list a → IfSome (get t.starts a) (λ x. x.generation ≡ generation) × IsSome (get t.starts a)
+  pub all : (a : ℕ) (x : Start) → get t.starts a ≡ Some x → x.generation ≡ generation → Contains list a
+  pub once : (a : ℕ) → times a list ≤ 1
 
 abbrev pub no_territory : ℕ → TerritoryView
 no_territory thread = record {
