@@ -4,7 +4,7 @@ use Rattle.std.proofs.lemmas.Bool.{cases_eq, cases_lt}
 use Rattle.std.proofs.lemmas.Bool.Decides.{nat_tests}
 use Rattle.std.proofs.lemmas.List.{get_or_past, length-map}
 use Rattle.std.proofs.lemmas.List.Concat.{flat_map-append}
-use Rattle.std.proofs.lemmas.Option.{same_Some, slice_get_within}
+use Rattle.std.proofs.lemmas.Option.{same_Some, slice_get_within, slice_get_read}
 use Rattle.std.specs.List.{slice_get, filter, flat_map, range_with_len}
 use Rattle.std.specs.FinMap.{get}
 use Rattle.gc_words.specs.declared.address.TheConstants.{SEGMENTS, OFFSETS, THREADS}
@@ -24,6 +24,8 @@ use Rattle.territory.proofs.Listing.{listed_at, in_use_linked, free_of}
 use Rattle.territory.proofs.Present.{IsPresent, present}
 use Rattle.territory.proofs.Entries.{get-starts}
 use Rattle.territory.proofs.Slots.{all_small, start_here}
+use Rattle.territory.proofs.Growing.{in_at}
+use Rattle.territory.proofs.Reading.{IsReached, reach, if_some}
 use Rattle.territory.proofs.Nexts.{next_at, once_of, get_left, get_right}
 
 -- ---- the starts of a segment from one place on
@@ -333,3 +335,187 @@ its_starts thread p targets now g e s small =
           contains_of a (flat_map (starts_in t) (numbers_of p.lists g)) (times_flat_ge (starts_in t) (numbers_of p.lists g) a n in_list there);
       once = λ a. all_once thread p targets g a s small;
     })
+
+-- ---- the calls
+drop_get : (xs : List ℕ) (i : ℕ) → slice_get (drop i xs) 0 ≡ slice_get xs i
+drop_get [] zero = refl
+drop_get [] (suc i) = refl
+drop_get (x ∷ xs) zero = refl
+drop_get (x ∷ xs) (suc i) = drop_get xs i
+
+used_some : (q : Segment) → IsSome (seen q) → is_free q.role ≡ false
+used_some q h = elim q.role as (λ r. IsSome (seen (record q { role = r })) → is_free r ≡ false) [ Free ↦ λ h. cc | Current ↦ λ h. refl | From ↦ λ h. refl ] h
+
+some_used : (q : Segment) → is_free q.role ≡ false → IsSome (seen q)
+some_used q u = elim q.role as (λ r. is_free r ≡ false → IsSome (seen (record q { role = r }))) [ Free ↦ λ h. cc | Current ↦ λ h. refl | From ↦ λ h. refl ] u
+
+pub segment_used : (thread : ℕ) (p : PoolView) (targets : Targets) (now : TerritoryView) (n : ℕ) → territory_view thread p targets ≡ now → IsSome (segment_at now n) → is_free (numbered p.segments n).role ≡ false
+segment_used thread p targets now n e h = used_some (numbered p.segments n) (subst IsSome (seen_at p.segments n) (subst (λ v. IsSome (segment_at v n)) (sym e) h))
+
+pub used_within : (segments : List Segment) (n : ℕ) → is_free (numbered segments n).role ≡ false → n < length segments
+used_within segments n u =
+    elim (cases_lt n (length segments)) [
+      | inl b ↦ b
+      | inr far ↦ absurd (let c : true ≡ false = sym (ap (λ (q : Segment). is_free q.role) (numbered_past segments n far)) ∙ u in cc)
+    ]
+
+-- the first start of a segment
+pub first_some : (thread : ℕ) (p : PoolView) (targets : Targets) (now : TerritoryView) (n k a : ℕ) (q : Segment) → territory_view thread p targets ≡ now → IsSettled p → q ≡ numbered p.segments n → IsStart q k → NoneWithin (IsStart q) 0 k → a ≡ address_of now.thread n (2 * k)
+    → Some a ≡ slice_get (starts_in now n) 0
+first_some thread p targets now n k a q e s is start none here =
+    let r : (rest : List ℕ) × (starts_in (territory_view thread p targets) n ≡ address_of thread n (2 * k) ∷ rest) = first_told thread p targets n k s (subst (λ v. IsStart v k) is start) (subst (λ v. NoneWithin (IsStart v) 0 k) is none) in
+    ap Some (here ∙ ap (λ (v : TerritoryView). address_of v.thread n (2 * k)) (sym e)) ∙ (sym (ap (λ v. slice_get v 0) r.1) ∙ ap (λ v. slice_get (starts_in v n) 0) e)
+
+pub never_none : (p : PoolView) (n : ℕ) (q : Segment) → AreUsed p.segments → is_free (numbered p.segments n).role ≡ false → q ≡ numbered p.segments n → NoneFrom (IsStart q) 0 → ⊥
+never_none p n q u used is none = let k : (k : ℕ) × IsStart (numbered p.segments n) k = u n used in none k.0 (omega arith) (subst (λ v. IsStart v k.0) (sym is) k.1)
+
+pub start_small : (p : PoolView) (n k : ℕ) (q : Segment) → IsSettled p → q ≡ numbered p.segments n → IsStart q k → k < 4194304
+start_small p n k q s is start =
+    let b : (k < length (numbered p.segments n).births) × _ × _ = born_in (numbered p.segments n) k (s.sound n).laid (subst (λ v. IsStart v k) is start).1 in
+    omega (arith, b.0, (s.sound n).births, (s.sound n).small)
+
+-- the first start of a generation
+list_used : (r : Role) (h g : ℕ) → (list_for r h ≡ 1 + g) ⊎ (list_for r h ≡ 10 + g) → is_free r ≡ false
+list_used Free h g e = elim e [ inl x ↦ absurd (omega arith) | inr x ↦ absurd (omega arith) ]
+list_used Current h g e = refl
+list_used From h g e = refl
+
+pub listed_used : (thread : ℕ) (p : PoolView) (targets : Targets) (now : TerritoryView) (g n i : ℕ) → territory_view thread p targets ≡ now → IsSettled p → slice_get (numbers_of p.lists g) i ≡ Some n → IsSome (segment_at now n)
+listed_used thread p targets now g n i e s at =
+    let t : 0 < times n (numbers_of p.lists g) = in_at (numbers_of p.lists g) i n at in
+    let l : (list_of (numbered p.segments n) ≡ 1 + g) ⊎ (list_of (numbered p.segments n) ≡ 10 + g) = elim (cases_lt 0 (times n (chain_of p.lists (1 + g)))) [
+      | inl b ↦ inl (s.listed.fits (1 + g) n b)
+      | inr none ↦ inr (s.listed.fits (10 + g) n (omega (arith, times-append n (chain_of p.lists (1 + g)) (chain_of p.lists (10 + g)))))
+    ] in
+    let u : is_free (numbered p.segments n).role ≡ false = list_used (numbered p.segments n).role (numbered p.segments n).generation g l in
+    subst (λ v. IsSome (segment_at v n)) e (subst IsSome (sym (seen_at p.segments n)) (some_used (numbered p.segments n) u))
+
+pub generation_none : (now : TerritoryView) (g : ℕ) (r : Option ℕ) → r ≡ slice_get (numbers_of now.lists g) 0 → r ≡ None → None ≡ slice_get (starts_of_generation now g) 0
+unfolding starts_of_generation
+generation_none now g r e n = sym (ap (λ v. slice_get v 0) (flat_none (starts_in now) (numbers_of now.lists g) (sym e ∙ n)))
+
+some_nothing : (r : Option ℕ) → IsSome r → r ≡ None → ⊥
+some_nothing None s e = cc
+some_nothing (Some x) s e = cc
+
+head_is : (xs : List ℕ) (r : Option ℕ) → IsSome r → r ≡ slice_get xs 0 → (a : ℕ) × (rest : List ℕ) × (r ≡ Some a) × (xs ≡ a ∷ rest)
+head_is [] r s e = absurd (some_nothing r s e)
+head_is (x ∷ xs) r s e = (x, xs, e, refl)
+
+pub generation_first : (now : TerritoryView) (g n : ℕ) (r : Option ℕ) → slice_get (numbers_of now.lists g) 0 ≡ Some n → IsSome r → r ≡ slice_get (starts_in now n) 0 → r ≡ slice_get (starts_of_generation now g) 0
+unfolding starts_of_generation
+generation_first now g n r first s e =
+    let h : (a : ℕ) × (rest : List ℕ) × (r ≡ Some a) × (starts_in now n ≡ a ∷ rest) = head_is (starts_in now n) r s e in
+    h.2 ∙ sym (flat_first (starts_in now) (numbers_of now.lists g) n h.0 h.1 first h.3)
+
+-- ---- the next start
+pub record IsBehind (now : TerritoryView) (g a n : ℕ) (rest : List ℕ) (i : ℕ) : Type 0 where
+  pub number : slice_get (numbers_of now.lists g) i ≡ Some n
+  pub front : List ℕ
+  pub list : starts_of_generation now g ≡ front ++ a ∷ (rest ++ flat_map (starts_in now) (drop (i + 1) (numbers_of now.lists g)))
+  pub once : times a (starts_of_generation now g) ≤ 1
+
+pub behind : (thread : ℕ) (p : PoolView) (targets : Targets) (now : TerritoryView) (a : ℕ) (x : Start) → territory_view thread p targets ≡ now → IsSettled p → get now.starts a ≡ Some x
+    → (i : ℕ) × IsBehind now x.generation a (segment_of a) (starts_from thread (segment_of a) (numbered p.segments (segment_of a)) (offset_of a / 2 + 1) (0 + places p (segment_of a) - (offset_of a / 2 + 1))) i
+unfolding starts_of_generation
+behind thread p targets now a x e s has0 =
+    let t : TerritoryView = territory_view thread p targets in
+    let n : ℕ = segment_of a in
+    let k : ℕ = offset_of a / 2 in
+    let has : get t.starts a ≡ Some x = ap (λ (v : TerritoryView). get v.starts a) e ∙ has0 in
+    let at : IsPresent thread p.segments a x = present thread p a x s has in
+    let rest : List ℕ = starts_from thread n (numbered p.segments n) (k + 1) (0 + places p n - (k + 1)) in
+    let gen : (numbered p.segments n).generation ≡ x.generation = ap (λ (v : Start). v.generation) (sym at.object) in
+    let small : x.generation < 9 = omega (arith, gen, s.generations n) in
+    let there : Contains (numbers_of p.lists x.generation) n = contains_of n (numbers_of p.lists x.generation) (subst (λ v. 0 < times n (numbers_of p.lists v)) gen (number_listed p n s at.starts.0)) in
+    let number : slice_get (numbers_of p.lists x.generation) there.0 ≡ Some n = slice_get_read (numbers_of p.lists x.generation) (length (numbers_of p.lists x.generation)) there.0 n refl there.1 (sym there.2) in
+    let cut : (us : List ℕ) × (starts_in t n ≡ us ++ (address_of thread n (2 * k) ∷ rest)) = split_told thread p targets n k s at.starts in
+    let a_is : address_of thread n (2 * k) ≡ a = address_is thread n (2 * k) ∙ sym at.address in
+    let tail : List ℕ = flat_map (starts_in t) (drop (there.0 + 1) (numbers_of p.lists x.generation)) in
+    let flat : (front : List ℕ) × (flat_map (starts_in t) (numbers_of p.lists x.generation) ≡ front ++ (starts_in t n ++ tail)) = flat_cut (starts_in t) (numbers_of p.lists x.generation) there.0 n number in
+    let list : flat_map (starts_in t) (numbers_of p.lists x.generation) ≡ flat.0 ++ cut.0 ++ a ∷ (rest ++ tail) =
+    flat.1 ∙ (ap (λ v. flat.0 ++ (v ++ tail)) (cut.1 ∙ ap (λ v. cut.0 ++ (v ∷ rest)) a_is) ∙ (ap (λ v. flat.0 ++ v) (append_assoc cut.0 (a ∷ rest) tail) ∙ sym (append_assoc flat.0 cut.0 (a ∷ (rest ++ tail))))) in
+    (there.0, subst (λ v. IsBehind v x.generation a n rest there.0) e (record { number = number; front = flat.0 ++ cut.0; list = list; once = all_once thread p targets x.generation a s small }))
+
+-- it is in the same segment
+pub next_same : (thread : ℕ) (p : PoolView) (targets : Targets) (now : TerritoryView) (a n k j b : ℕ) (x : Start) (q : Segment) → territory_view thread p targets ≡ now → IsSettled p → get now.starts a ≡ Some x → n ≡ segment_of a → k ≡ offset_of a / 2 → q ≡ numbered p.segments n
+    → k + 1 ≤ j → IsStart q j → NoneWithin (IsStart q) (k + 1) j → b ≡ address_of now.thread n (2 * j) → IsNext (starts_of_generation now x.generation) a (Some b)
+next_same thread p targets now a n k j b x q e s has en ek is after start none here =
+    let h : (i : ℕ) × IsBehind now x.generation a (segment_of a) (starts_from thread (segment_of a) (numbered p.segments (segment_of a)) (offset_of a / 2 + 1) (0 + places p (segment_of a) - (offset_of a / 2 + 1))) i = behind thread p targets now a x e s has in
+    let q_is : q ≡ numbered p.segments (segment_of a) = is ∙ ap (numbered p.segments) en in
+    let start' : IsStart (numbered p.segments (segment_of a)) j = subst (λ v. IsStart v j) q_is start in
+    let none' : NoneWithin (IsStart (numbered p.segments (segment_of a))) (offset_of a / 2 + 1) j = subst (λ v. NoneWithin (IsStart (numbered p.segments (segment_of a))) (v + 1) j) ek (subst (λ v. NoneWithin (IsStart v) (k + 1) j) q_is none) in
+    let r : (rest : List ℕ) × (starts_from thread (segment_of a) (numbered p.segments (segment_of a)) (offset_of a / 2 + 1) (0 + places p (segment_of a) - (offset_of a / 2 + 1)) ≡ address_of thread (segment_of a) (2 * j) ∷ rest) =
+    from_some thread (segment_of a) (numbered p.segments (segment_of a)) (offset_of a / 2 + 1) (0 + places p (segment_of a) - (offset_of a / 2 + 1)) j (omega (arith, ek)) (omega (arith, ek, start_places p (segment_of a) j s start')) start' none' in
+    let b_is : address_of thread (segment_of a) (2 * j) ≡ b = ap (λ (v : TerritoryView). address_of v.thread (segment_of a) (2 * j)) e ∙ (ap (λ v. address_of now.thread v (2 * j)) (sym en) ∙ sym here) in
+    let tail : List ℕ = flat_map (starts_in now) (drop (h.0 + 1) (numbers_of now.lists x.generation)) in
+    next_cut (starts_of_generation now x.generation) h.1.front (b ∷ (r.0 ++ tail)) a (Some b) h.1.once (h.1.list ∙ ap (λ v. h.1.front ++ a ∷ (v ++ tail)) (r.1 ∙ ap (λ v. v ∷ r.0) b_is)) refl
+
+-- no more start in the segment
+last_there : (thread : ℕ) (p : PoolView) (targets : Targets) (now : TerritoryView) (a n k : ℕ) (x : Start) (q : Segment) → territory_view thread p targets ≡ now → IsSettled p → get now.starts a ≡ Some x → n ≡ segment_of a → k ≡ offset_of a / 2 → q ≡ numbered p.segments n
+    → NoneFrom (IsStart q) (k + 1) → (i : ℕ) × IsBehind now x.generation a n [] i
+last_there thread p targets now a n k x q e s has en ek is none =
+    let h : (i : ℕ) × IsBehind now x.generation a (segment_of a) (starts_from thread (segment_of a) (numbered p.segments (segment_of a)) (offset_of a / 2 + 1) (0 + places p (segment_of a) - (offset_of a / 2 + 1))) i = behind thread p targets now a x e s has in
+    let none' : NoneFrom (IsStart (numbered p.segments (segment_of a))) (offset_of a / 2 + 1) = subst (λ v. NoneFrom (IsStart (numbered p.segments (segment_of a))) (v + 1)) ek (subst (λ v. NoneFrom (IsStart v) (k + 1)) (is ∙ ap (numbered p.segments) en) none) in
+    (h.0, subst (λ v. IsBehind now x.generation a v [] h.0) (sym en) (subst (λ v. IsBehind now x.generation a (segment_of a) v h.0)
+        (from_none thread (segment_of a) (numbered p.segments (segment_of a)) (offset_of a / 2 + 1) (0 + places p (segment_of a) - (offset_of a / 2 + 1)) none') h.1))
+
+after_is : (now : TerritoryView) (g n i : ℕ) (o : Option ℕ) → slice_get (numbers_of now.lists g) i ≡ Some n → IsNext (numbers_of now.lists g) n o → slice_get (drop (i + 1) (numbers_of now.lists g)) 0 ≡ o
+after_is now g n i o at next = drop_get (numbers_of now.lists g) (i + 1) ∙ sym (next i at)
+
+pub next_nothing : (thread : ℕ) (p : PoolView) (targets : Targets) (now : TerritoryView) (a n k : ℕ) (x : Start) (q : Segment) (o : Option ℕ) → territory_view thread p targets ≡ now → IsSettled p → get now.starts a ≡ Some x → n ≡ segment_of a → k ≡ offset_of a / 2 → q ≡ numbered p.segments n
+    → NoneFrom (IsStart q) (k + 1) → IsNext (numbers_of now.lists x.generation) n o → o ≡ None → IsNext (starts_of_generation now x.generation) a None
+next_nothing thread p targets now a n k x q o e s has en ek is none next last =
+    let h : (i : ℕ) × IsBehind now x.generation a n [] i = last_there thread p targets now a n k x q e s has en ek is none in
+    let tail : flat_map (starts_in now) (drop (h.0 + 1) (numbers_of now.lists x.generation)) ≡ [] = flat_none (starts_in now) (drop (h.0 + 1) (numbers_of now.lists x.generation)) (after_is now x.generation n h.0 o h.1.number next ∙ last) in
+    next_cut (starts_of_generation now x.generation) h.1.front [] a None h.1.once (h.1.list ∙ ap (λ v. h.1.front ++ a ∷ v) tail) refl
+
+pub next_later : (thread : ℕ) (p : PoolView) (targets : Targets) (now : TerritoryView) (a n k m : ℕ) (x : Start) (q : Segment) (o r : Option ℕ) → territory_view thread p targets ≡ now → IsSettled p → get now.starts a ≡ Some x → n ≡ segment_of a → k ≡ offset_of a / 2 → q ≡ numbered p.segments n
+    → NoneFrom (IsStart q) (k + 1) → IsNext (numbers_of now.lists x.generation) n o → o ≡ Some m → IsSome r → r ≡ slice_get (starts_in now m) 0 → IsNext (starts_of_generation now x.generation) a r
+next_later thread p targets now a n k m x q o r e s has en ek is none next more some first =
+    let h : (i : ℕ) × IsBehind now x.generation a n [] i = last_there thread p targets now a n k x q e s has en ek is none in
+    let tail : List ℕ = flat_map (starts_in now) (drop (h.0 + 1) (numbers_of now.lists x.generation)) in
+    let head : (b : ℕ) × (rest : List ℕ) × (r ≡ Some b) × (starts_in now m ≡ b ∷ rest) = head_is (starts_in now m) r some first in
+    let at : slice_get tail 0 ≡ Some head.0 = flat_first (starts_in now) (drop (h.0 + 1) (numbers_of now.lists x.generation)) m head.0 head.1 (after_is now x.generation n h.0 o h.1.number next ∙ more) head.3 in
+    next_cut (starts_of_generation now x.generation) h.1.front tail a r h.1.once h.1.list (head.2 ∙ sym at)
+
+-- ---- for the answers of `next_start`
+number_next : (thread : ℕ) (p : PoolView) (targets : Targets) (now : TerritoryView) (a n : ℕ) (o : Option ℕ) → territory_view thread p targets ≡ now → (r : IsReached thread p now a) → n ≡ segment_of a → IsNext (numbers_of p.lists (numbered p.segments n).generation) n o
+    → IsNext (numbers_of now.lists r.start.generation) n o
+number_next thread p targets now a n o e r en next =
+    let gen : (numbered p.segments n).generation ≡ r.start.generation = ap (λ v. (numbered p.segments v).generation) en ∙ sym (ap (λ (v : Start). v.generation) r.present.object) in
+    subst (λ (v : TerritoryView). IsNext (numbers_of v.lists r.start.generation) n o) e (subst (λ v. IsNext (numbers_of p.lists v) n o) gen next)
+
+pub place_small : (thread : ℕ) (p : PoolView) (targets : Targets) (now : TerritoryView) (a k : ℕ) → territory_view thread p targets ≡ now → IsSettled p → IsSome (get now.starts a) → k ≡ offset_of a / 2 → k < OFFSETS
+place_small thread p targets now a k e s h ek = let r : IsReached thread p now a = reach thread p targets now a s e h in omega (arith, r.present.small)
+
+pub place_used : (thread : ℕ) (p : PoolView) (targets : Targets) (now : TerritoryView) (a n : ℕ) → territory_view thread p targets ≡ now → IsSettled p → IsSome (get now.starts a) → n ≡ segment_of a → is_free (numbered p.segments n).role ≡ false
+place_used thread p targets now a n e s h en = let r : IsReached thread p now a = reach thread p targets now a s e h in subst (λ v. is_free (numbered p.segments v).role ≡ false) (sym en) r.present.starts.0
+
+pub told_same : (thread : ℕ) (p : PoolView) (targets : Targets) (now : TerritoryView) (a n k j b : ℕ) (q : Segment) → territory_view thread p targets ≡ now → IsSettled p → IsSome (get now.starts a) → n ≡ segment_of a → k ≡ offset_of a / 2 → q ≡ numbered p.segments n
+    → k + 1 ≤ j → IsStart q j → NoneWithin (IsStart q) (k + 1) j → b ≡ address_of now.thread n (2 * j) → IfSome (get now.starts a) (λ x. IsNext (starts_of_generation now x.generation) a (Some b))
+told_same thread p targets now a n k j b q e s h en ek is after start none here =
+    let r : IsReached thread p now a = reach thread p targets now a s e h in
+    if_some (get now.starts a) r.start (λ x. IsNext (starts_of_generation now x.generation) a (Some b)) r.has (next_same thread p targets now a n k j b r.start q e s r.has en ek is after start none here)
+
+pub told_nothing : (thread : ℕ) (p : PoolView) (targets : Targets) (now : TerritoryView) (a n k : ℕ) (q : Segment) (o last : Option ℕ) → territory_view thread p targets ≡ now → IsSettled p → IsSome (get now.starts a) → n ≡ segment_of a → k ≡ offset_of a / 2 → q ≡ numbered p.segments n
+    → NoneFrom (IsStart q) (k + 1) → IsNext (numbers_of p.lists (numbered p.segments n).generation) n o → o ≡ None → last ≡ None → IfSome (get now.starts a) (λ x. IsNext (starts_of_generation now x.generation) a last)
+told_nothing thread p targets now a n k q o last e s h en ek is none next end last_is =
+    let r : IsReached thread p now a = reach thread p targets now a s e h in
+    if_some (get now.starts a) r.start (λ x. IsNext (starts_of_generation now x.generation) a last) r.has
+    (subst (IsNext (starts_of_generation now r.start.generation) a) (sym last_is) (next_nothing thread p targets now a n k r.start q o e s r.has en ek is none (number_next thread p targets now a n o e r en next) end))
+
+pub told_later : (thread : ℕ) (p : PoolView) (targets : Targets) (now : TerritoryView) (a n k m : ℕ) (q : Segment) (o r : Option ℕ) → territory_view thread p targets ≡ now → IsSettled p → IsSome (get now.starts a) → n ≡ segment_of a → k ≡ offset_of a / 2 → q ≡ numbered p.segments n
+    → NoneFrom (IsStart q) (k + 1) → IsNext (numbers_of p.lists (numbered p.segments n).generation) n o → o ≡ Some m → IsSome r → r ≡ slice_get (starts_in now m) 0 → IfSome (get now.starts a) (λ x. IsNext (starts_of_generation now x.generation) a r)
+told_later thread p targets now a n k m q o r e s h en ek is none next more some first =
+    let c : IsReached thread p now a = reach thread p targets now a s e h in
+    if_some (get now.starts a) c.start (λ x. IsNext (starts_of_generation now x.generation) a r) c.has
+    (next_later thread p targets now a n k m c.start q o r e s c.has en ek is none (number_next thread p targets now a n o e c en next) more some first)
+
+-- the segment after it is in use
+pub later_used : (thread : ℕ) (p : PoolView) (targets : Targets) (now : TerritoryView) (n m : ℕ) (o : Option ℕ) → territory_view thread p targets ≡ now → IsSettled p → is_free (numbered p.segments n).role ≡ false → IsNext (numbers_of p.lists (numbered p.segments n).generation) n o → o ≡ Some m → IsSome (segment_at now m)
+later_used thread p targets now n m o e s used next more =
+    let g : ℕ = (numbered p.segments n).generation in
+    let there : Contains (numbers_of p.lists g) n = contains_of n (numbers_of p.lists g) (number_listed p n s used) in
+    let number : slice_get (numbers_of p.lists g) there.0 ≡ Some n = slice_get_read (numbers_of p.lists g) (length (numbers_of p.lists g)) there.0 n refl there.1 (sym there.2) in
+    listed_used thread p targets now g m (there.0 + 1) e s (sym (next there.0 number) ∙ more)
