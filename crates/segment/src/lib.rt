@@ -14,6 +14,6 @@ mod layout;
 mod segment;
 mod space;
 
-pub use layout::{first_word, size};
+pub use layout::{first_word, size, words_after};
 pub use segment::{Role, Segment};
 pub use space::Space;

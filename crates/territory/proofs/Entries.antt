@@ -42,7 +42,7 @@ none_here : (b : Bool) (x : Start) (r : Option Start) → cond b (Some x) r ≡ 
 none_here true x r h s t k = cc
 none_here false x r h s t k = k h
 
-find-append_out : (q : ℕ) (es fs : List (ℕ × Start)) → find nat_cmp q es ≡ None → find nat_cmp q (es ++ fs) ≡ find nat_cmp q fs
+pub find-append_out : (q : ℕ) (es fs : List (ℕ × Start)) → find nat_cmp q es ≡ None → find nat_cmp q (es ++ fs) ≡ find nat_cmp q fs
 find-append_out q [] fs h = refl
 find-append_out q (e ∷ es) fs h = none_here (eq_by_cmp nat_cmp q e.0) e.1 (find nat_cmp q es) h (find nat_cmp q (es ++ fs)) (find nat_cmp q fs) (find-append_out q es fs)
 
@@ -57,7 +57,7 @@ find-append_left q (e ∷ es) fs h = none_or (eq_by_cmp nat_cmp q e.0) e.1 _ _ (
 abbrev pub AllSmall : List Segment → Type 0
 AllSmall segments = (i : ℕ) → i < length segments → 2 * length (numbered segments i).births ≤ OFFSETS
 
-small_tail : (p : Segment) (segments : List Segment) → AllSmall (p ∷ segments) → AllSmall segments
+pub small_tail : (p : Segment) (segments : List Segment) → AllSmall (p ∷ segments) → AllSmall segments
 small_tail p segments h i k = h (suc i) (omega arith)
 
 -- an address of no page from this one on has no entry

@@ -61,7 +61,7 @@ at thread pool targets now a n k q s e h is ks read =
       object = r.present.object ∙ (ap (object_at (numbered pool.segments (segment_of a))) (sym ks) ∙ ap (λ v. object_at v k) same);
     }
 
-if_some : (o : Option Start) (x : Start) (P : Start → Type 0) → o ≡ Some x → P x → IfSome o P
+pub if_some : (o : Option Start) (x : Start) (P : Start → Type 0) → o ≡ Some x → P x → IfSome o P
 if_some o x P e p = subst (λ v. IfSome v P) (sym e) p
 
 pub value : {Y : Type 0} (F : Start → Y) (r : Y) (thread : ℕ) (pool : PoolView) (now : TerritoryView) (a k : ℕ) (q : Segment) → IsAt thread pool now a k q → r ≡ F (object_at q k) → IfSome (get now.starts a) (λ x. r ≡ F x)

@@ -17,7 +17,7 @@ use Rattle.segment.specs.Segments.{Segment, Start, IsSound, IsStart, is_free, ob
 use Rattle.segment.proofs.Spots.{in_words, spot_put, spot_put_other, spot_start}
 use Rattle.territory.specs.declared.territory.Targets.{Targets}
 use Rattle.territory.specs.Territories.{SegmentView, TerritoryView, segment_at, put_start, words_of, place_of, byte_at, card_byte, has_values, Refers, AreCardsSound, needs_mark, with_card, marks, with_dirty, with_word, TellsLower}
-use Rattle.territory.specs.Pools.{PoolView, IsSettled, numbered, starts_of, seen, is_from_role, noted, dirty_after, territory_view}
+use Rattle.territory.specs.Pools.{PoolView, IsSettled, AreUsed, numbered, starts_of, seen, is_from_role, noted, dirty_after, territory_view}
 use Rattle.territory.proofs.Numbers.{numbered-set_same, numbered-set_other, seen_at}
 use Rattle.territory.proofs.Slots.{all_small, IsSlot, changed_map, get_here, get_other}
 use Rattle.territory.proofs.Reading.{IsReached, reach, has_index}
@@ -265,3 +265,23 @@ note_starts thread targets now old mid a n k index word e s i is ks m =
     let after : Some (object_at (put_in p k index word) k) ≡ Some (record (object_at p k) { words = set (words_at p k) index word }) = sym (spot_start (put_in p k index word) k before.0) ∙ spot_put p k index word (object_at p k) (spot_start p k before.0) in
     let words : words_at (put_in p k index word) k ≡ set (words_at p k) index word = ap (λ (v : Start). v.words) (same_Some _ _ after) in
     (subst (λ v. IsStart v k) (sym here) before.0, subst (λ v. index < length (words_at v k)) (sym here) (omega (arith, ap length words, length-set (words_at p k) index word, before.1)))
+
+-- each segment in use has its starts
+starts_noted : (b : Bool) (p : Segment) (word g j : ℕ) → IsStart p j → IsStart (cond b (marked_at p word g) p) j
+starts_noted true p word g j s = s
+starts_noted false p word g j s = s
+
+pub used_put : (thread : ℕ) (targets : Targets) (now : TerritoryView) (old mid new : PoolView) (a n k index word refers : ℕ) → IsPut thread targets now old mid new a n k index word refers → AreUsed old.segments → AreUsed new.segments
+used_put thread targets now old mid new a n k index word refers d u m used =
+    let l : IsAll thread targets now old mid new a n k index word refers = all thread targets now old mid new a n k index word refers d in
+    let p : Segment = numbered old.segments n in
+    let q : Segment = put_in p k index word in
+    let r : Segment = noted q k index refers in
+    elim (cases_eq m n) [
+      | inl e ↦
+          let here : numbered new.segments m ≡ r = ap (λ v. numbered v m) l.segments ∙ (ap (numbered (set old.segments n r)) e ∙ numbered-set_same old.segments n r l.within) in
+          subst (λ v. (j : ℕ) × IsStart v j) (sym here) (k, starts_noted (needs_mark (is_from_role p.role) p.generation refers) q (place_in q k index) refers k l.starts)
+      | inr ne ↦
+          let same : numbered new.segments m ≡ numbered old.segments m = ap (λ v. numbered v m) l.segments ∙ numbered-set_other old.segments n m r ne in
+          subst (λ v. (j : ℕ) × IsStart v j) (sym same) (u m (subst (λ (v : Segment). is_free v.role ≡ false) same used))
+    ]

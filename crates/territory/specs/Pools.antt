@@ -10,7 +10,7 @@ use Rattle.segment.specs.declared.space.Space.TheVariants as space
 use Rattle.segment.specs.declared.segment.Role.{Role}
 use Rattle.segment.specs.declared.segment.Role.TheVariants.{Free, Current, From}
 use Rattle.segment.specs.Layout.{space_index, HasLength}
-use Rattle.segment.specs.Segments.{Segment, Start, IsSound, is_free, vacant, spot, place_in, marked_at}
+use Rattle.segment.specs.Segments.{Segment, Start, IsSound, IsStart, is_free, vacant, spot, place_in, marked_at}
 use Rattle.territory.specs.declared.counts.SegmentCounts.{SegmentCounts}
 use Rattle.territory.specs.declared.territory.Targets.{Targets}
 use Rattle.territory.specs.Territories.{SegmentView, TerritoryView, needs_mark, with_dirty}
@@ -109,6 +109,10 @@ pub record IsSettled (p : PoolView) : Type 0 where
   pub open_areas : AreOpen p.segments p.areas
   pub dirty : AreDirty p.segments p.dirty
   pub counted : AreCounted p.segments p.areas p.counts
+
+-- each segment in use has a start
+abbrev pub AreUsed : List Segment → Type 0
+AreUsed segments = (n : ℕ) → is_free (numbered segments n).role ≡ false → (k : ℕ) × IsStart (numbered segments n) k
 
 -- ---- the starts of all segments, where their numbers count from `base`
 

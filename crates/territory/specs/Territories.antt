@@ -1,14 +1,14 @@
 -- What contracts see of a territory.
-use Rattle.std.specs.Prelude.{◌≡◌, ◌≢◌, ℕ, ◌+◌, ◌*◌, ◌/◌, ◌<◌, ◌≤◌, ◌==◌, Bool, true, false, if◌then◌else◌, nat_lt, List, [], ◌∷◌, length, min, replicate, slice_get, slice_index, slice_index_or, slice_set, ◌++◌, ◌%◌, ◌⊎◌, Option, Some, None, option_map, IsSome, IsNone, IfSome, refl}
-use Rattle.std.specs.List.{list_any}
+use Rattle.std.specs.Prelude.{◌≡◌, ◌≢◌, ℕ, ◌+◌, ◌*◌, ◌/◌, ◌<◌, ◌≤◌, ◌==◌, Bool, true, false, if◌then◌else◌, nat_lt, List, [], ◌∷◌, length, map, is_some, min, replicate, slice_get, slice_index, slice_index_or, slice_set, ◌++◌, ◌%◌, ◌⊎◌, Option, Some, None, option_map, IsSome, IsNone, IfSome, Contains, ◌&&◌, refl}
+use Rattle.std.specs.List.{list_any, filter, flat_map, range_with_len}
 use Rattle.std.specs.Ordering.{nat_cmp}
 use Rattle.std.specs.FinMap.{FinMap, code, get, insert, empty}
 use Rattle.std.specs.Coded.{Coded, code_by, coded×, coded_ℕ, coded_bool, coded_list, coded_option}
 use Rattle.gc_words.specs.declared.value.Value.TheVariants as value
-use Rattle.gc_words.specs.Layout.{thread_of, segment_of, offset_of, IsAddress}
+use Rattle.gc_words.specs.Layout.{address_of, thread_of, segment_of, offset_of, IsAddress}
 use Rattle.gc_words.specs.Word.{value_of}
 use Rattle.cards.specs.Cards.{card_of, card_count}
-use Rattle.seg_chain.specs.Lists.{chain_of, link_count, with_last, moved}
+use Rattle.seg_chain.specs.Lists.{chain_of, link_count, times, with_last, moved}
 use Rattle.trace_types.specs.declared.kind.Kind.{Kind}
 use Rattle.trace_types.specs.declared.kind.Kind.TheVariants as kind
 use Rattle.segment.specs.declared.space.Space.{Space}
@@ -221,6 +221,52 @@ pub record IsPlaced (old new : TerritoryView) (s : Space) (g size n : ℕ) : Typ
   pub fits : IfSome (segment_at new n) (λ v. (v.space ≡ s) × (v.generation ≡ g) × (v.is_from ≡ false))
   pub others : (m : ℕ) → m ≢ n → segment_at new m ≡ segment_at old m
   pub areas : new.areas ≡ areas_for old.areas (area_of s g) size n
+
+-- ---- what is counted
+abbrev pub words_in : Option SegmentView → ℕ
+words_in None = 0
+words_in (Some s) = s.words
+
+-- a shared segment in which a collection kept an object at its place
+abbrev pub counts_as_held : Option SegmentView → Bool
+counts_as_held None = false
+counts_as_held (Some s) = s.was_held && (s.words == 512)
+
+abbrev pub is_cell : Kind → Bool
+is_cell kind.Cell = true
+is_cell _ = false
+
+-- ---- the list of dirty segments: each once, and those alone that have a card other than 255
+abbrev pub HasMark : Option SegmentView → Type 0
+HasMark None = ⊥
+HasMark (Some s) = (card : ℕ) × (card < length s.cards) × (slice_index s.cards card ≢ 255)
+
+pub record AreDirtyOnes (t : TerritoryView) : Type 0 where
+  pub marked : (n : ℕ) → Contains t.dirty n → HasMark (segment_at t n)
+  pub all : (n : ℕ) → HasMark (segment_at t n) → Contains t.dirty n
+  pub once : (n : ℕ) → times n t.dirty ≤ 1
+
+-- r is what comes after n in a list
+abbrev pub IsNext : List ℕ → ℕ → Option ℕ → Type 0
+IsNext xs n r = (k : ℕ) → slice_get xs k ≡ Some n → r ≡ slice_get xs (k + 1)
+
+-- ---- the list of the starts of a generation
+-- the segments of a generation, and then its from-segments
+abbrev pub numbers_of : List (List ℕ) → ℕ → List ℕ
+numbers_of lists generation = chain_of lists (1 + generation) ++ chain_of lists (10 + generation)
+
+-- the starts of a segment, in ascending order
+unfoldable pub starts_in : TerritoryView → ℕ → List ℕ
+starts_in t n = filter (λ a. is_some (get t.starts a)) (map (λ k. address_of t.thread n (2 * k)) (range_with_len 0 (words_in (segment_at t n) / 2)))
+
+unfoldable pub starts_of_generation : TerritoryView → ℕ → List ℕ
+starts_of_generation t generation = flat_map (starts_in t) (numbers_of t.lists generation)
+
+-- the list has the starts of the generation, each once
+pub record AreItsStarts (t : TerritoryView) (generation : ℕ) (list : List ℕ) : Type 0 where
+  pub starts : (a : ℕ) → Contains list a → IfSome (get t.starts a) (λ x. x.generation ≡ generation) × IsSome (get t.starts a)
+  pub all : (a : ℕ) (x : Start) → get t.starts a ≡ Some x → x.generation ≡ generation → Contains list a
+  pub once : (a : ℕ) → times a list ≤ 1
 
 abbrev pub no_territory : ℕ → TerritoryView
 no_territory thread = record {

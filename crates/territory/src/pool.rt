@@ -4,6 +4,7 @@ ghost use Rattle.std.specs.Prelude.{◌≡◌, ◌<◌, ◌/◌, ◌↔◌, [], 
 ghost use Rattle.segment.specs.Segments.{IsStart};
 ghost use Rattle.territory.specs.Pools.{IsSettled, numbered};
 
+mod lists;
 mod numbers;
 mod objects;
 mod room;
@@ -88,5 +89,12 @@ impl Pool {
         ensures { IsTrue result ↔ IsStart (numbered self.now.segments n) (offset / 2) }
     {
         n < self.segments.len() && self.segments[n].is_start(offset)
+    }
+
+    /// The counters.
+    pub fn counts(&self) -> SegmentCounts
+        ensures { result ≡ self.now.counts }
+    {
+        self.counts
     }
 }

@@ -1,12 +1,13 @@
 //! The segments of one creator thread.
 
-ghost use Rattle.std.specs.Prelude.{◌≡◌, ℕ, ◌<◌, ◌↔◌, ◌/◌, Option, length, slice_index, IfOk, IfSome, IsSome, IsTrue};
+ghost use Rattle.std.specs.Prelude.{◌≡◌, ℕ, ◌<◌, ◌↔◌, ◌*◌, ◌/◌, Option, length, slice_index, IfOk, IfSome, IsSome, IsTrue};
 ghost use Rattle.std.specs.FinMap as map;
 ghost use Rattle.gc_words.specs.declared.address.TheConstants.{THREADS};
-ghost use Rattle.gc_words.specs.Layout.{segment_of, offset_of};
+ghost use Rattle.gc_words.specs.Layout.{address_of, segment_of, offset_of};
 ghost use Rattle.territory.specs.Territories.{no_territory, words_of, with_word, IsShaped, HaveAddresses, TellsLower, AreCardsSound};
 
 mod allocating;
+mod listing;
 
 use crate::pool::Pool;
 use gc_words::{Address, THREADS};
@@ -39,7 +40,7 @@ impl Model for Territory {
     ghost use Rattle.std.specs.Prelude.{◌<◌};
     ghost use Rattle.gc_words.specs.declared.address.TheConstants.{THREADS};
     ghost use Rattle.territory.specs.Territories.{TerritoryView, coded_territory};
-    ghost use Rattle.territory.specs.Pools.{IsSettled, territory_view};
+    ghost use Rattle.territory.specs.Pools.{IsSettled, AreUsed, territory_view};
 
     ghost Value = { TerritoryView };
 
@@ -47,7 +48,7 @@ impl Model for Territory {
 
     ghost view = { λ a. territory_view a.thread a.pool a.targets };
 
-    ghost invariant = { λ a. (a.thread < THREADS) × IsSettled a.pool };
+    ghost invariant = { λ a. (a.thread < THREADS) × IsSettled a.pool × AreUsed a.pool.segments };
 }
 
 /// The number of the segment of an address, and the number of its start there: one for each two words.
@@ -150,5 +151,14 @@ impl Territory {
         let (segment, start) = place(at);
         self.pool.put(segment, start, index as usize, word);
         self.pool.note(segment, start, index as usize, refers);
+    }
+
+    /// The address of start `k` of segment `n`.
+    fn address(&self, n: usize, k: usize) -> Address
+        requires within { n < length self.now.segments }
+        requires start { k < 4194304 }
+        ensures { result ≡ address_of self.now.thread n (2 * k) }
+    {
+        Address::at(self.thread, n as u64, 2 * k as u32)
     }
 }
