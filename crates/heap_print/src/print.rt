@@ -1,6 +1,6 @@
 //! The printed graph of a value.
 
-ghost use Rattle.std.specs.Prelude.{◌≡◌, ◌≢◌, ◌↔◌, ◌++◌, ◌∷◌, [], ℕ, List, true, false, map, flat_map, slice_get, Some, IsTrue, IfSome, IfNone, IfOk, OnOk, Err};
+ghost use Rattle.std.specs.Prelude.{◌≡◌, ◌≢◌, ◌↔◌, ◌++◌, ◌∷◌, [], ℕ, List, true, false, map, flat_map, slice_get, Some, IsTrue, IfSome, IfNone, IfOk, OnOk, OnErr, Err};
 ghost use Rattle.std.specs.Option.{option_map};
 ghost use Rattle.std.specs.List.{AllByRecursion};
 ghost use Rattle.trace_types.specs.States.{State, operand_value};
@@ -113,9 +113,8 @@ fn push_graph(
 /// Appends the printed graph of a value: a line with the value, and a line for each object that is reached from it.
 ///
 /// Objects are numbered in the order of first visit, going through them by number and through each from left to right,
-/// weak fields and queues included. Takes memory for the numbers; refused, a front of the text may have been
-/// appended, and the heap is as it was. It answers `Failed` exactly where the heap had failed. The text is this
-/// project's own.
+/// weak fields and queues included. Takes memory for the numbers and the text; refused, nothing was appended, and the
+/// heap is as it was. It answers `Failed` exactly where the heap had failed. The text is this project's own.
 pub fn print_value(
     alloc: Global,
     heap: &Heap,
@@ -123,6 +122,7 @@ pub fn print_value(
     text: &mut Vec<u8>,
 ) -> Result<(), HeapError>
     ensures text { OnOk result ((s : State) → Stands heap.now s → text.new.items ≡ text.old.items ++ print_text s.graph (operand_value s value)) }
+    ensures refused { OnErr result (text.new.items ≡ text.old.items) }
     ensures failed { (result ≡ Err HeapError.Failed) ↔ (heap.now.failed ≡ true) }
     ensures no_fault { (f : Fault) → result ≢ Err (HeapError.Fault f) }
 {
@@ -130,7 +130,12 @@ pub fn print_value(
         return Err(HeapError::Failed);
     }
     let value = heap.value_of(value)?;
-    match push_graph(alloc, heap, &value, text) {
+    let mut graph = Vec::new(alloc);
+    match push_graph(alloc, heap, &value, &mut graph) {
+        Ok(()) => {}
+        Err(_) => return Err(HeapError::NoMemory),
+    }
+    match text.extend_from_slice(&graph) {
         Ok(()) => Ok(()),
         Err(_) => Err(HeapError::NoMemory),
     }

@@ -7,7 +7,7 @@ use Rattle.trace_types.specs.declared.fault.Fault.{Fault}
 use Rattle.trace_types.specs.Lines.{lines_of}
 use Rattle.trace_types.proofs.RunLaws.{stopped-front}
 use Rattle.trace_types.specs.States.{opening}
-use Rattle.plain_heap.specs.HeapView.{HeapView}
+use Rattle.heap_store.specs.HeapView.{HeapView}
 use Rattle.replay.specs.Built.{run, line_turn}
 use Rattle.replay.specs.declared.words.Words.{Words}
 use Rattle.replay.specs.Texts.{write_message}

@@ -16,8 +16,8 @@ use Rattle.trace_text.specs.declared.reader.Next.{Next}
 use Rattle.std.proofs.lemmas.List.{take-append-drop, take-append-le}
 use Rattle.std.proofs.lemmas.Bool.{lt-ltb}
 use Rattle.trace_types.specs.States.{State, opening}
-use Rattle.plain_heap.specs.HeapView.{HeapView}
-use Rattle.plain_heap.specs.Plain.{Stands}
+use Rattle.heap_store.specs.HeapView.{HeapView}
+use Rattle.heap_store.specs.Stands.{Stands}
 use Rattle.replay.specs.Built.{line_turn, run, run_lines}
 use Rattle.replay.specs.Engine.{EngineView, IsFront}
 use Rattle.replay.specs.Rows.{Read, Wrote, early, Progress}

@@ -1,28 +1,29 @@
 -- What the commands leave of the engine, from what the calls of the heap leave.
-use Rattle.std.proofs.Common.{◌≡◌, ◌≢◌, ℕ, List, [], ◌++◌, true, false, Result, Ok, Err, OnOk, OnErr, refl, sym, ◌∙◌, ap, subst, append-nil}
+use Rattle.std.proofs.Common.{◌≡◌, ◌≢◌, ℕ, List, [], ◌++◌, true, false, Result, Ok, Err, OnOk, OnErr, IsTrue, cond, refl, sym, ◌∙◌, ap, subst, append-nil}
 use Rattle.trace_types.specs.declared.command.Command.{Command}
-use Rattle.trace_types.specs.declared.command.Command.TheVariants.{Cons, Print}
+use Rattle.trace_types.specs.declared.command.Command.TheVariants.{Print}
+use Rattle.trace_types.specs.declared.fault.Fault.TheVariants.{UnknownCommand}
+use Rattle.territory.specs.Territories.{TerritoryView}
+use Rattle.heap_store.specs.Starts.{Keeps, lasting}
+use Rattle.heap_store.specs.Changes.{HaveSoundCards}
 use Rattle.trace_types.specs.declared.operand.Operand.{Operand}
 use Rattle.trace_types.specs.declared.fault.Fault.{Fault}
 use Rattle.trace_types.specs.States.{State, Answer, operand_value}
 use Rattle.trace_types.specs.Printing.{print_text}
 use Rattle.trace_types.specs.Steps.{step}
-use Rattle.plain_heap.specs.HeapView.{HeapView}
-use Rattle.plain_heap.specs.Plain.{Stands, Obeys}
-use Rattle.plain_heap.specs.declared.error.HeapError.{HeapError}
-use Rattle.plain_heap.specs.declared.error.HeapError.TheVariants.{Failed, NoMemory, Fault as IsFault}
-use Rattle.replay.specs.Built.{built_step}
+use Rattle.heap_store.specs.HeapView.{HeapView, starts_of, starts_in}
+use Rattle.heap_store.specs.Stands.{Stands}
+use Rattle.heap_store.specs.Calls.{Obeys}
+use Rattle.heap_store.specs.declared.error.HeapError.{HeapError}
+use Rattle.heap_store.specs.declared.error.HeapError.TheVariants.{Failed, NoMemory, Fault as IsFault}
+use Rattle.replay.specs.Built.{built_step, is_built}
+use Rattle.replay.proofs.Silent.{IsSilent, is_silent, silent}
 use Rattle.replay.specs.Engine.{Steps}
 
--- an answer that prints nothing
-abbrev IsSilent : Answer → Type 0
-IsSilent (Ok p) = p.1 ≡ []
-IsSilent (Err f) = Unit {0}
-
--- a command that prints nothing
+-- what an answer without text leaves
 obeys_steps : (s : State) (n : ℕ) (c : Command) (a : Answer) (r : Result (Unit {0}) HeapError) (text : List ℕ) (heap : HeapView) →
     built_step s n c ≡ a → IsSilent a → Obeys s a r heap → Steps s n c r text text heap
-obeys_steps s n c (Ok p) (Ok u) text heap is silent obeys = (p, is, obeys, sym (append-nil text) ∙ ap (λ (t : List ℕ). text ++ t) (sym silent))
+obeys_steps s n c (Ok p) (Ok u) text heap is silent obeys = (p, is, obeys, sym (append-nil text) ∙ ap (λ (t : List ℕ). text ++ t) (sym silent.empty))
 obeys_steps s n c (Ok p) (Err NoMemory) text heap is silent obeys = (obeys, (p, [], is, (p.1, refl), sym (append-nil text)))
 obeys_steps s n c (Ok p) (Err (IsFault f)) text heap is silent obeys = absurd obeys
 obeys_steps s n c (Ok p) (Err Failed) text heap is silent obeys = obeys
@@ -31,14 +32,27 @@ obeys_steps s n c (Err f) (Err (IsFault g)) text heap is silent obeys = (is ∙ 
 obeys_steps s n c (Err f) (Err NoMemory) text heap is silent obeys = absurd obeys
 obeys_steps s n c (Err f) (Err Failed) text heap is silent obeys = obeys
 
-silent_cons : (s : State) (n d : ℕ) (car cdr : Operand) → IsSilent (step s n (Cons d car cdr))
-unfolding step
-silent_cons s n d car cdr = refl
+-- a command that is built and prints nothing
+pub silent_steps : (s : State) (n : ℕ) (c : Command) → is_built c ≡ true → IsTrue (is_silent c) → (r : Result (Unit {0}) HeapError) (text : List ℕ) (heap : HeapView) →
+    Obeys s (step s n c) r heap → Steps s n c r text text heap
+silent_steps s n c built quiet r text heap obeys =
+    obeys_steps s n c (step s n c) r text heap (ap (λ b. cond b (step s n c) (Err UnknownCommand)) built) (silent s n c quiet) obeys
 
-pub cons_steps : (s : State) (n d : ℕ) (car cdr : Operand) (r : Result (Unit {0}) HeapError) (text : List ℕ) (heap : HeapView) →
-    Obeys s (step s n (Cons d car cdr)) r heap → Steps s n (Cons d car cdr) r text text heap
-cons_steps s n d car cdr r text heap obeys =
-    obeys_steps s n (Cons d car cdr) (step s n (Cons d car cdr)) r text heap refl (silent_cons s n d car cdr) obeys
+-- where no territory changed, each object is at its place
+pub kept_same : (old new : HeapView) → new.territories ≡ old.territories → Keeps (starts_of old) (starts_of new)
+kept_same old new same a there = ap (λ (ts : List TerritoryView). lasting (starts_in ts a)) same
+
+pub cards_same : (old new : HeapView) → new.territories ≡ old.territories → HaveSoundCards old.territories → HaveSoundCards new.territories
+cards_same old new same sound = subst HaveSoundCards (sym same) sound
+
+pub on_ok : (r : Result (Unit {0}) HeapError) (P : Type 0) → P → OnOk r P
+on_ok (Ok u) P p = p
+on_ok (Err e) P p = tt
+
+-- a call that left the heap as it was left its cards
+pub cards_after : (r : Result (Unit {0}) HeapError) (old new : HeapView) → OnOk r (new ≡ old) → HaveSoundCards old.territories → OnOk r (HaveSoundCards new.territories)
+cards_after (Ok u) old new same sound = subst (λ (h : HeapView). HaveSoundCards h.territories) (sym same) sound
+cards_after (Err e) old new same sound = tt
 
 step_print : (s : State) (n : ℕ) (v : Operand) → built_step s n (Print v) ≡ Ok (s, print_text s.graph (operand_value s v))
 unfolding step
@@ -56,4 +70,4 @@ print_steps s n v (Err NoMemory) old new before after stands text kept refused f
     let p : State × List ℕ = (s, print_text s.graph (operand_value s v)) in
     (ap (λ (h : HeapView). h.failed) refused.0, (p, [], step_print s n v, (p.1, refl), refused.1 ∙ sym (append-nil old)))
 print_steps s n v (Err Failed) old new before after stands text kept refused failed no_fault =
-    let bad : true ≡ false = sym (failed refl) ∙ stands.0 in absurd (cc)
+    let bad : true ≡ false = sym (failed refl) ∙ stands.alive in absurd (cc)

@@ -6,9 +6,9 @@ use Rattle.trace_types.specs.declared.limits.Limits.{Limits}
 use Rattle.trace_types.specs.States.{State}
 use Rattle.trace_types.specs.Reading.{read}
 use Rattle.trace_types.specs.Runs.{performed}
-use Rattle.plain_heap.specs.HeapView.{HeapView}
-use Rattle.plain_heap.specs.declared.error.HeapError.{HeapError}
-use Rattle.plain_heap.specs.declared.error.HeapError.TheVariants.{Failed, NoMemory, Fault as IsFault}
+use Rattle.heap_store.specs.HeapView.{HeapView}
+use Rattle.heap_store.specs.declared.error.HeapError.{HeapError}
+use Rattle.heap_store.specs.declared.error.HeapError.TheVariants.{Failed, NoMemory, Fault as IsFault}
 use Rattle.replay.specs.Built.{built_step, line_turn}
 use Rattle.replay.specs.Engine.{Steps, Turns}
 

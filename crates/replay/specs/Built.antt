@@ -2,7 +2,7 @@
 use Rattle.std.specs.Prelude.{ℕ, Bool, true, false, List, Err, if◌then◌else◌}
 use Rattle.trace_types.specs.declared.fault.Fault.TheVariants.{UnknownCommand}
 use Rattle.trace_types.specs.declared.command.Command.{Command}
-use Rattle.trace_types.specs.declared.command.Command.TheVariants.{Cons, Print}
+use Rattle.trace_types.specs.declared.command.Command.TheVariants.{Thread, Cons, MakeBox, Vector, Bytes, Get, Set, Mov, Print, Version}
 use Rattle.trace_types.specs.declared.limits.Limits.{Limits}
 use Rattle.trace_types.specs.States.{State, opening, Answer}
 use Rattle.trace_types.specs.Steps.{step}
@@ -12,9 +12,26 @@ use Rattle.trace_types.specs.Runs as runs
 
 -- the commands that the program performs
 abbrev pub is_built : Command → Bool
+is_built (Thread thread) = true
 is_built (Cons d car cdr) = true
+is_built (MakeBox d value) = true
+is_built (Vector d length value) = true
+is_built (Bytes d length byte) = true
+is_built (Get d s index) = true
+is_built (Set s index value) = true
+is_built (Mov d value) = true
 is_built (Print value) = true
+is_built Version = true
 is_built _ = false
+
+-- those of them that take no memory
+abbrev pub takes_no_memory : Command → Bool
+takes_no_memory (Thread thread) = true
+takes_no_memory (Get d s index) = true
+takes_no_memory (Set s index value) = true
+takes_no_memory (Mov d value) = true
+takes_no_memory Version = true
+takes_no_memory _ = false
 
 -- Each other command has the fault of an unknown one, before its faults by the state.
 abbrev pub built_step : State → ℕ → Command → Answer

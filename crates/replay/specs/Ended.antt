@@ -3,7 +3,7 @@ use Rattle.std.specs.Prelude.{[], ◌≡◌, ℕ, List, Some, None}
 use Rattle.std.specs.Io.KnownBytes.{Appends}
 use Rattle.gc_io.specs.Outside.{Rose}
 use Rattle.trace_types.specs.declared.limits.Limits.{Limits}
-use Rattle.plain_heap.specs.Plain.{Stands}
+use Rattle.heap_store.specs.Stands.{Stands}
 use Rattle.replay.specs.Built.{run}
 use Rattle.replay.specs.Rows.{Read, Wrote, ReadFailed, RanOut, Row, done, refused, read_fault, no_memory}
 use Rattle.replay.specs.declared.lines.Ending.{Ending}

@@ -3,10 +3,10 @@ use Rattle.std.specs.Prelude.{◌≡◌, ℕ, List, ◌++◌, true, Result, Ok, 
 use Rattle.trace_types.specs.declared.command.Command.{Command}
 use Rattle.trace_types.specs.declared.limits.Limits.{Limits}
 use Rattle.trace_types.specs.States.{State}
-use Rattle.plain_heap.specs.HeapView.{HeapView}
-use Rattle.plain_heap.specs.Plain.{Stands}
-use Rattle.plain_heap.specs.declared.error.HeapError.{HeapError}
-use Rattle.plain_heap.specs.declared.error.HeapError.TheVariants.{Failed, NoMemory, Fault as IsFault}
+use Rattle.heap_store.specs.HeapView.{HeapView}
+use Rattle.heap_store.specs.Stands.{Stands}
+use Rattle.heap_store.specs.declared.error.HeapError.{HeapError}
+use Rattle.heap_store.specs.declared.error.HeapError.TheVariants.{Failed, NoMemory, Fault as IsFault}
 use Rattle.replay.specs.Built.{built_step, line_turn}
 
 -- the heap, and the newest line that was performed

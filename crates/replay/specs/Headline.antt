@@ -4,8 +4,8 @@ use Rattle.std.specs.Io.KnownBytes.{Appends}
 use Rattle.gc_io.specs.Outside.{Rose}
 use Rattle.trace_types.specs.declared.fault.Fault.{Fault}
 use Rattle.trace_types.specs.declared.limits.Limits.{Limits}
-use Rattle.plain_heap.specs.HeapView.{HeapView}
-use Rattle.plain_heap.specs.Plain.{Stands}
+use Rattle.heap_store.specs.HeapView.{HeapView}
+use Rattle.heap_store.specs.Stands.{Stands}
 use Rattle.replay.specs.Built.{run}
 use Rattle.replay.specs.Engine.{IsFront}
 use Rattle.replay.specs.Texts.{refusal, read_message, write_message, memory_message, usage_message}

@@ -4,7 +4,7 @@ use Rattle.std.specs.Io.KnownBytes.{Appends}
 use Rattle.gc_io.specs.Outside.{Rose}
 use Rattle.replay.specs.Texts.{refusal, read_message, write_message, memory_message}
 use Rattle.replay.specs.Rows.{Wrote}
-use Rattle.plain_heap.specs.HeapView.{HeapView}
+use Rattle.heap_store.specs.HeapView.{HeapView}
 use Rattle.replay.specs.declared.lines.Ending.{Ending}
 use Rattle.replay.specs.declared.lines.Ending.TheVariants.{All, At, ReadFault, WriteFault, NoMemory}
 use Rattle.replay.specs.declared.report.Status.{Status}

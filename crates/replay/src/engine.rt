@@ -1,13 +1,19 @@
 // The engine: a heap and the commands that are performed on it.
-ghost use Rattle.std.specs.Prelude.{◌≡◌, ◌≢◌, ◌↔◌, ◌<◌, ◌≤◌, ◌++◌, true, Err, IfOk, OnOk, OnErr, if◌then◌else◌};
+ghost use Rattle.std.specs.Prelude.{◌≡◌, ◌≢◌, ◌↔◌, ◌<◌, ◌≤◌, ◌++◌, true, Err, IfOk, OnOk, OnErr, IsTrue, if◌then◌else◌};
 ghost use Rattle.trace_types.specs.States.{State, opening, operand_value};
 ghost use Rattle.trace_types.specs.Printing.{print_text};
-ghost use Rattle.plain_heap.specs.Plain.{Stands};
+ghost use Rattle.heap_store.specs.Stands.{Stands};
+ghost use Rattle.trace_types.specs.WellFormed.{operands_fit};
+ghost use Rattle.heap_store.specs.Starts.{Keeps};
+ghost use Rattle.heap_store.specs.HeapView.{starts_of};
+ghost use Rattle.heap_store.specs.Changes.{HaveSoundCards};
+ghost use Rattle.replay.specs.Built.{takes_no_memory};
 ghost use Rattle.replay.specs.Engine.{Steps};
 ghost use Rattle.replay.specs.Words.{IsInRange};
 
 use gc_io::Gate;
-use plain_heap::{Heap, HeapError, print_value};
+use heap_print::print_value;
+use heap_store::{Heap, HeapError};
 use std::alloc::{AllocError, Global};
 use std::marker::Model;
 use std::thread::Threads;
@@ -24,7 +30,12 @@ impl Model for Engine {
     ghost use Rattle.std.specs.Prelude.{◌≤◌};
     ghost use Rattle.replay.specs.Engine.{EngineView};
 
+    ghost use Rattle.std.specs.Coded.{codes};
+    ghost use Rattle.territory.specs.Territories.{coded_territory};
+
     ghost Value = { EngineView };
+
+    ghost coded = { Prim.hlevel (codes, coded_territory) };
 
     ghost view = { λ e. record { heap = e.heap; newest = e.newest } };
 
@@ -36,6 +47,7 @@ impl Engine {
     pub fn new(alloc: Global, limits: Limits) -> Result<Engine, AllocError>
         requires { IsInRange limits }
         ensures opening { IfOk result (λ e. Stands e.heap (opening limits.generations)) }
+        ensures cards { IfOk result (λ e. HaveSoundCards e.heap.territories) }
         ensures newest { IfOk result (λ e. e.newest ≡ 0) }
     {
         let heap = Heap::new(alloc, limits.generations)?;
@@ -57,10 +69,11 @@ impl Engine {
         heap
     }
 
-    /// Performs the command of a line, and appends the text that it prints.
+    /// Performs the command of a line, whose fixnums are in range, and appends the text that it prints.
     ///
     /// A fault leaves the heap and the text as they were. Where memory runs out, the heap has failed, and a front of the
-    /// command's text may have been appended. A command that isn't built yet has the fault `UnknownCommand`.
+    /// command's text may have been appended. `thread`, `get`, `set`, `mov` and `version 2` take no memory. A command that
+    /// isn't built yet has the fault `UnknownCommand`.
     pub fn step<R: Threads + Sync, G: Gate>(
         &mut self,
         _rt: &R,
@@ -71,13 +84,25 @@ impl Engine {
     ) -> Result<(), HeapError>
         requires newer { self.old.newest < line }
         requires line { line ≤ 1073741823 }
+        requires operands { IsTrue (operands_fit command.now) }
         ensures step { (s : State) → Stands self.old.heap s → Steps s line command.now result text.old.items text.new.items self.new.heap }
+        ensures kept { OnOk result (Keeps (starts_of self.old.heap) (starts_of self.new.heap)) }
+        ensures cards { HaveSoundCards self.old.heap.territories → OnOk result (HaveSoundCards self.new.heap.territories) }
         ensures failed { (result ≡ Err HeapError.Failed) ↔ (self.old.heap.failed ≡ true) }
+        ensures no_memory { IsTrue (takes_no_memory command.now) → result ≢ Err HeapError.NoMemory }
         ensures newest { self.new.newest ≡ line }
     {
         self.newest = line;
         match command {
+            Command::Thread { thread } => self.heap.select_thread(*thread),
             Command::Cons { d, car, cdr } => self.heap.cons(line, *d, *car, *cdr),
+            Command::MakeBox { d, value } => self.heap.make_box(line, *d, *value),
+            Command::Vector { d, length, value } => self.heap.vector(line, *d, *length, *value),
+            Command::Bytes { d, length, byte } => self.heap.bytes(line, *d, *length, *byte),
+            Command::Get { d, s, index } => self.heap.get(*d, *s, *index),
+            Command::Set { s, index, value } => self.heap.set(*s, *index, *value),
+            Command::Mov { d, value } => self.heap.mov(*d, *value),
+            Command::Version => self.heap.version_two(line),
             Command::Print { value } => print_graph(&mut self.heap, *value, text),
             _ => unbuilt(&self.heap),
         }

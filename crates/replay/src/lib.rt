@@ -18,7 +18,7 @@ mod top;
 mod words;
 
 pub use engine::Engine;
-pub use plain_heap::{Heap, HeapError};
+pub use heap_store::{Heap, HeapError};
 pub use report::{Outcome, Status};
 pub use top::replay_main;
 pub use words::{Words, WordsError, read_words};

@@ -3,7 +3,7 @@ ghost use Rattle.std.specs.Prelude.{◌≡◌, ◌<◌, ◌≤◌, ◌^◌, [], 
 ghost use Rattle.std.specs.Io.KnownBytes.{Keeps};
 ghost use Rattle.gc_io.specs.Outside.{HasCause, StaysFlushed};
 ghost use Rattle.trace_types.specs.States.{State};
-ghost use Rattle.plain_heap.specs.Plain.{Stands};
+ghost use Rattle.heap_store.specs.Stands.{Stands};
 ghost use Rattle.replay.specs.Words.{IsInRange};
 ghost use Rattle.replay.specs.Engine.{Turns};
 ghost use Rattle.replay.specs.Rows.{Progress, read_of, wrote_of};
@@ -12,7 +12,7 @@ ghost use Rattle.replay.specs.Ended.{Ended, HasRisen, Closed};
 use crate::engine::Engine;
 use crate::put::put;
 use gc_io::{Gate, Sink, Source};
-use plain_heap::{Heap, HeapError};
+use heap_store::{Heap, HeapError};
 use std::alloc::Global;
 use std::thread::Threads;
 use trace_text::{LineReader, Next, read_command};

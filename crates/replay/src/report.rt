@@ -7,7 +7,7 @@ ghost use Rattle.replay.specs.Reports.{Told, Untold, Reports, number_of};
 use crate::lines::Ending;
 use crate::put::put;
 use gc_io::Sink;
-use plain_heap::Heap;
+use heap_store::Heap;
 use std::alloc::{AllocError, Global};
 use trace_types::Fault;
 

@@ -2,9 +2,9 @@ use Rattle.std.proofs.Common.{◌≡◌, ◌++◌, sym, subst, ◌∙◌, List, 
 use Rattle.std.specs.Io.KnownBytes.{Appends}
 use Rattle.trace_text.specs.Next.{Gives}
 use Rattle.trace_text.specs.declared.reader.Next.{Next}
-use Rattle.plain_heap.specs.HeapView.{HeapView}
-use Rattle.plain_heap.specs.Plain.{Stands}
-use Rattle.plain_heap.specs.declared.error.HeapError.{HeapError}
+use Rattle.heap_store.specs.HeapView.{HeapView}
+use Rattle.heap_store.specs.Stands.{Stands}
+use Rattle.heap_store.specs.declared.error.HeapError.{HeapError}
 use Rattle.replay.specs.Built.{line_turn}
 use Rattle.replay.specs.Engine.{Turns}
 use Rattle.replay.proofs.Told.{flushed_twice, rose_later}
