@@ -1,11 +1,11 @@
 //! The heap.
 #![tactic(auto)]
 
+mod creating;
 mod error;
 mod fields;
 mod heap;
 mod locks;
-mod creating;
 mod notes;
 mod parts;
 mod registry;
@@ -17,3 +17,6 @@ pub use locks::Locks;
 pub use notes::{Noted, Notes};
 pub use parts::Parts;
 pub use registry::Registry;
+
+#[cfg(test)]
+mod tests;
