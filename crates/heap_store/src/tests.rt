@@ -13,123 +13,79 @@ fn register(n: u32) -> Result<Register, Fail> {
 }
 
 #[test]
-fn fields_of_each_kind(rt: HostRuntime) -> Result<(), Fail> {
+fn a_box_holds_a_pair(rt: HostRuntime) -> Result<(), Fail> {
     let mut heap = Heap::new(rt.alloc(), 3)?;
-    let pair = register(4095)?;
-    let boxed = register(1)?;
-    let vector = register(2)?;
-    let bytes = register(3)?;
-    let got = register(4)?;
+    let r = register(4095)?;
     let greatest = Operand::Fixnum(1152921504606846975);
     let least = Operand::Fixnum(-1152921504606846976);
-    assert_eq!(rt; heap.select_thread(63), Ok(()));
-    assert_eq!(rt; heap.cons(1, pair, greatest, least), Ok(()));
-    assert_eq!(rt; heap.make_box(2, boxed, Operand::Reg(pair)), Ok(()));
-    assert_eq!(rt; heap.select_thread(0), Ok(()));
-    assert_eq!(rt; heap.vector(3, vector, 200, Operand::Reg(boxed)), Ok(()));
-    assert_eq!(rt; heap.bytes(4, bytes, 11, 10), Ok(()));
-    assert_eq!(rt; heap.get(got, vector, 199), Ok(()));
-    assert_eq!(rt; heap.get(got, got, 0), Ok(()));
-    assert_eq!(rt; heap.get(got, got, 1), Ok(()));
-    assert_eq!(rt;
-        heap.value_of(Operand::Reg(got)),
-        Ok(Value::Fixnum(-1152921504606846976))
-    );
-    assert_eq!(rt; heap.set(bytes, 10, Operand::Fixnum(255)), Ok(()));
-    assert_eq!(rt; heap.get(got, bytes, 10), Ok(()));
-    assert_eq!(rt; heap.value_of(Operand::Reg(got)), Ok(Value::Fixnum(255)));
-    assert_eq!(rt; heap.get(got, bytes, 9), Ok(()));
-    assert_eq!(rt; heap.value_of(Operand::Reg(got)), Ok(Value::Fixnum(10)));
-    assert_eq!(rt; heap.set(vector, 0, Operand::False), Ok(()));
-    assert_eq!(rt; heap.get(got, vector, 0), Ok(()));
-    assert_eq!(rt; heap.value_of(Operand::Reg(got)), Ok(Value::False));
-    assert_eq!(rt; heap.mov(got, Operand::Reg(pair)), Ok(()));
-    assert_eq!(rt; heap.generation_of(Operand::Reg(got)), Ok(Some(0)));
-    assert_eq!(rt; heap.generation_of(Operand::Nil), Ok(None));
+    assert_eq!(rt; heap.cons(1, r, greatest, least), Ok(()));
+    assert_eq!(rt; heap.make_box(2, r, Operand::Reg(r)), Ok(()));
+    assert_eq!(rt; heap.get(r, r, 0), Ok(()));
+    assert_eq!(rt; heap.get(r, r, 1), Ok(()));
+    let last = heap.value_of(Operand::Reg(r));
+    assert_eq!(rt; last, Ok(Value::Fixnum(-1152921504606846976)));
     Ok(())
 }
 
 #[test]
-fn faults_come_in_their_order(rt: HostRuntime) -> Result<(), Fail> {
+fn a_byte_is_set_alone(rt: HostRuntime) -> Result<(), Fail> {
     let mut heap = Heap::new(rt.alloc(), 3)?;
-    let nothing = register(0)?;
-    let pair = register(1)?;
-    let bytes = register(2)?;
-    assert_eq!(rt;
-        heap.vector(1, pair, 1000001, Operand::Nil),
-        Err(HeapError::Fault(Fault::BadLength))
-    );
-    assert_eq!(rt;
-        heap.bytes(1, pair, 1000001, 0),
-        Err(HeapError::Fault(Fault::BadLength))
-    );
-    assert_eq!(rt; heap.version_two(1), Ok(()));
-    assert_eq!(rt;
-        heap.version_two(2),
-        Err(HeapError::Fault(Fault::UnknownCommand))
-    );
-    assert_eq!(rt;
-        heap.vector(2, pair, 4000001, Operand::Nil),
-        Err(HeapError::Fault(Fault::BadLength))
-    );
-    assert_eq!(rt; heap.bytes(2, bytes, 1000001, 0), Ok(()));
-    assert_eq!(rt; heap.cons(3, pair, Operand::Nil, Operand::Nil), Ok(()));
-    for (from, index, fault) in [
-        (nothing, 0, Fault::WrongKind),
-        (pair, 2, Fault::BadIndex),
-        (bytes, 1000001, Fault::BadIndex),
-    ] {
+    let bytes = register(0)?;
+    let got = register(1)?;
+    assert_eq!(rt; heap.bytes(1, bytes, 11, 10), Ok(()));
+    assert_eq!(rt; heap.set(bytes, 9, Operand::Fixnum(255)), Ok(()));
+    for (index, byte) in [(8, 10), (9, 255), (10, 10)] {
+        assert_eq!(rt; heap.get(got, bytes, index), Ok(()));
         assert_eq!(rt;
-            heap.get(nothing, from, index),
-            Err(HeapError::Fault(fault)),
-            "get at {index}"
+            heap.value_of(Operand::Reg(got)),
+            Ok(Value::Fixnum(byte)),
+            "at {index}"
         );
     }
+    Ok(())
+}
+
+#[test]
+fn faults_of_set_in_their_order(rt: HostRuntime) -> Result<(), Fail> {
+    let mut heap = Heap::new(rt.alloc(), 3)?;
+    let nothing = register(0)?;
+    let vector = register(1)?;
+    let bytes = register(2)?;
+    assert_eq!(rt; heap.vector(1, vector, 200, Operand::Nil), Ok(()));
+    assert_eq!(rt; heap.bytes(2, bytes, 3, 0), Ok(()));
     for (into, index, value, fault) in [
         (nothing, 0, 0, Fault::WrongKind),
-        (pair, 2, 0, Fault::BadIndex),
-        (bytes, 1000001, 255, Fault::BadIndex),
-        (bytes, 1000001, 256, Fault::WrongKind),
+        (vector, 200, 0, Fault::BadIndex),
+        (bytes, 3, 255, Fault::BadIndex),
+        (bytes, 3, 256, Fault::WrongKind),
         (bytes, 0, -1, Fault::WrongKind),
     ] {
-        assert_eq!(rt;
-            heap.set(into, index, Operand::Fixnum(value)),
-            Err(HeapError::Fault(fault)),
-            "set to {value}"
-        );
+        let answer = heap.set(into, index, Operand::Fixnum(value));
+        assert_eq!(rt; answer, Err(HeapError::Fault(fault)), "{value} at {index}");
     }
     Ok(())
 }
 
 #[test]
 fn a_failed_heap_answers_failed(rt: HostRuntime) -> Result<(), Fail> {
-    let mut heap = Heap::new(rt.alloc(), 3)?;
-    let r = register(0)?;
-    heap.fail();
-    assert!(rt; heap.failed());
-    let failed = Err(HeapError::Failed);
-    assert_eq!(rt; heap.cons(1, r, Operand::Nil, Operand::Nil), failed);
-    assert_eq!(rt; heap.make_box(1, r, Operand::Nil), failed);
-    assert_eq!(rt; heap.vector(1, r, 1000001, Operand::Nil), failed);
-    assert_eq!(rt; heap.bytes(1, r, 1000001, 0), failed);
-    assert_eq!(rt; heap.get(r, r, 0), failed);
-    assert_eq!(rt; heap.set(r, 0, Operand::Nil), failed);
-    assert_eq!(rt; heap.mov(r, Operand::Nil), failed);
-    assert_eq!(rt; heap.select_thread(0), failed);
-    assert_eq!(rt; heap.version_two(2), failed);
-    assert_eq!(rt; heap.value_of(Operand::Nil), Err(HeapError::Failed));
-    assert_eq!(rt; heap.generation_of(Operand::Nil), Err(HeapError::Failed));
-    Ok(())
-}
-
-#[test]
-fn parts_are_put_back(rt: HostRuntime) -> Result<(), Fail> {
     let mut heap = Heap::new(rt.alloc(), 7)?;
     let r = register(0)?;
-    let parts = heap.take_parts();
-    assert!(rt; heap.failed());
-    assert_eq!(rt; heap.mov(r, Operand::Nil), Err(HeapError::Failed));
-    heap.put_parts(parts);
-    assert_eq!(rt; heap.cons(1, r, Operand::True, Operand::Nil), Ok(()));
+    heap.fail();
+    for call in 0..9u32 {
+        let answer = match call {
+            0 => heap.cons(1, r, Operand::Nil, Operand::Nil),
+            1 => heap.make_box(1, r, Operand::Nil),
+            2 => heap.vector(1, r, 1000001, Operand::Nil),
+            3 => heap.bytes(1, r, 1000001, 0),
+            4 => heap.get(r, r, 0),
+            5 => heap.set(r, 0, Operand::Nil),
+            6 => heap.mov(r, Operand::Nil),
+            7 => heap.select_thread(0),
+            _ => heap.version_two(1),
+        };
+        assert_eq!(rt; answer, Err(HeapError::Failed), "call {call}");
+    }
+    assert_eq!(rt; heap.value_of(Operand::Nil), Err(HeapError::Failed));
+    assert_eq!(rt; heap.generation_of(Operand::Nil), Err(HeapError::Failed));
     Ok(())
 }
