@@ -18,3 +18,6 @@ pub mod Cells
 pub mod Dirties
 pub mod Nexts
 pub mod Showing
+pub mod Asides
+pub mod Beginning
+pub mod Begun

@@ -4,6 +4,7 @@ ghost use Rattle.std.specs.Prelude.{◌≡◌, ◌<◌, ◌/◌, ◌↔◌, [], 
 ghost use Rattle.segment.specs.Segments.{IsStart};
 ghost use Rattle.territory.specs.Pools.{IsSettled, numbered};
 
+mod collection;
 mod lists;
 mod numbers;
 mod objects;
