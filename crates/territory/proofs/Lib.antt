@@ -21,3 +21,4 @@ pub mod Showing
 pub mod Asides
 pub mod Beginning
 pub mod Begun
+pub mod BegunTerritory

@@ -1,5 +1,5 @@
 -- What contracts see of a territory.
-use Rattle.std.specs.Prelude.{◌≡◌, ◌≢◌, ℕ, ◌+◌, ◌*◌, ◌/◌, ◌<◌, ◌≤◌, ◌==◌, Bool, true, false, if◌then◌else◌, nat_lt, List, [], ◌∷◌, length, map, is_some, min, replicate, slice_get, slice_index, slice_index_or, slice_set, ◌++◌, ◌%◌, ◌⊎◌, Option, Some, None, option_map, IsSome, IsNone, IfSome, Contains, ◌&&◌, refl}
+use Rattle.std.specs.Prelude.{◌≡◌, ◌≢◌, ℕ, ◌+◌, ◌*◌, ◌/◌, ◌<◌, ◌≤◌, ◌==◌, Bool, true, false, if◌then◌else◌, nat_lt, nat_le, List, [], ◌∷◌, length, map, is_some, min, replicate, slice_get, slice_index, slice_index_or, slice_set, ◌++◌, ◌%◌, ◌⊎◌, Option, Some, None, option_map, IsSome, IsNone, IfSome, Contains, ◌&&◌, refl}
 use Rattle.std.specs.List.{list_any, filter, flat_map, range_with_len}
 use Rattle.std.specs.Ordering.{nat_cmp}
 use Rattle.std.specs.FinMap.{FinMap, code, get, insert, empty}
@@ -263,6 +263,19 @@ pub record AreItsStarts (t : TerritoryView) (generation : ℕ) (list : List ℕ)
   pub starts : (a : ℕ) → Contains list a → IfSome (get t.starts a) (λ x. x.generation ≡ generation) × IsSome (get t.starts a)
   pub all : (a : ℕ) (x : Start) → get t.starts a ≡ Some x → x.generation ≡ generation → Contains list a
   pub once : (a : ℕ) → times a list ≤ 1
+
+-- ---- a collection
+
+-- a segment as it is after the generations up to cg were set aside
+abbrev pub when_begun : ℕ → SegmentView → SegmentView
+when_begun cg s = if nat_le s.generation cg then record s { is_from = true } else s
+
+-- The lists, after the generations up to cg were set aside: their segments are behind the from-segments.
+pub record AreListsBegun (old new : List (List ℕ)) (cg : ℕ) : Type 0 where
+  pub same : length new ≡ length old
+  pub free : chain_of new 0 ≡ chain_of old 0
+  pub current : (g : ℕ) → g < 9 → chain_of new (1 + g) ≡ (if nat_le g cg then [] else chain_of old (1 + g))
+  pub from : (g : ℕ) → g < 9 → chain_of new (10 + g) ≡ (if nat_le g cg then chain_of old (10 + g) ++ chain_of old (1 + g) else chain_of old (10 + g))
 
 abbrev pub no_territory : ℕ → TerritoryView
 no_territory thread = record {

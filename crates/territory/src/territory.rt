@@ -7,6 +7,7 @@ ghost use Rattle.gc_words.specs.Layout.{address_of, segment_of, offset_of};
 ghost use Rattle.territory.specs.Territories.{no_territory, words_of, with_word, IsShaped, TellsLower, AreCardsSound};
 
 mod allocating;
+mod collecting;
 mod listing;
 
 use crate::pool::Pool;
