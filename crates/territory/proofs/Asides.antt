@@ -1,18 +1,17 @@
 -- Segments that are set aside, one list after the other.
-use Rattle.std.proofs.Common.{◌≡◌, ◌≢◌, ℕ, zero, suc, ◌+◌, ◌*◌, ◌<◌, ◌≤◌, Bool, true, false, cond, List, [], ◌∷◌, ◌++◌, length, get_or, set, take, drop, Option, Some, None, Contains, refl, sym, ◌∙◌, ap, subst, arith, inl, inr}
+use Rattle.std.proofs.Common.{◌≡◌, ◌≢◌, ℕ, zero, suc, ◌+◌, ◌<◌, ◌≤◌, true, false, List, [], ◌∷◌, ◌++◌, length, get_or, set, take, Option, Some, None, refl, sym, ◌∙◌, ap, subst, arith, inl, inr}
 use Rattle.std.proofs.lemmas.Bool.{cases_eq, cases_lt}
-use Rattle.std.proofs.lemmas.List.{length-set, take_more, take_all, get_or_read, take-append-drop}
-use Rattle.std.proofs.lemmas.Option.{slice_get_within, get_or_from_slice_get, slice_get_past}
+use Rattle.std.proofs.lemmas.List.{length-set, take_more, take_all, get_or_read}
+use Rattle.std.proofs.lemmas.Option.{slice_get_within, get_or_from_slice_get}
 use Rattle.std.specs.List.{slice_get}
-use Rattle.seg_chain.specs.Lists.{chain_of, link_count, times, times_all, EachOnce}
-use Rattle.seg_chain.proofs.Counts.{times-append, times-le-all, length-le-total, here_in}
+use Rattle.seg_chain.specs.Lists.{chain_of, link_count, times, EachOnce}
+use Rattle.seg_chain.proofs.Counts.{times-append, times-le-all, length-le-total}
 use Rattle.seg_chain.proofs.Laws.{is_index, contains_of}
 use Rattle.segment.specs.Segments.{Segment, is_free, set_aside, vacant}
 use Rattle.territory.specs.Pools.{numbered}
 use Rattle.territory.specs.Changes.{AreSetAside, AreInUse}
 use Rattle.territory.proofs.Numbers.{numbered-set_same, numbered-set_other, numbered_past}
 use Rattle.territory.proofs.Listing.{last_in, is_last}
-use Rattle.territory.proofs.Nexts.{one_place}
 use Rattle.territory.proofs.Growing.{in_at}
 
 pub once_in : (lists : List (List ℕ)) (c n : ℕ) → EachOnce lists → c < length lists → times n (chain_of lists c) ≤ 1

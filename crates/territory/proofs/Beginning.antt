@@ -1,19 +1,17 @@
 -- The segments of a generation are set aside.
-use Rattle.std.proofs.Common.{◌≡◌, ◌≢◌, ℕ, zero, suc, ◌+◌, ◌-◌, ◌*◌, ◌/◌, ◌%◌, ◌<◌, ◌≤◌, Bool, true, false, cond, eqb, ◌&&◌, List, [], ◌∷◌, ◌++◌, length, get_or, set, Option, Some, None, is_some, refl, sym, ◌∙◌, ap, subst, arith, inl, inr, ◌⊎◌}
+use Rattle.std.proofs.Common.{◌≡◌, ◌≢◌, ℕ, suc, ◌+◌, ◌-◌, ◌%◌, ◌<◌, Bool, false, cond, eqb, ◌&&◌, List, [], ◌∷◌, ◌++◌, length, get_or, Option, Some, None, refl, sym, ◌∙◌, ap, subst, arith, inl, inr}
 use Rattle.std.proofs.lemmas.Bool.{cases_eq, cases_lt}
 use Rattle.std.proofs.lemmas.List.Sums.{sum_by-cons}
 use Rattle.std.proofs.lemmas.Option.{get_or_from_slice_get, slice_get_within, slice_get-get_or}
-use Rattle.std.specs.List.{slice_get, sum_by, count_by}
+use Rattle.std.specs.List.{slice_get, sum_by}
 use Rattle.seg_chain.specs.Lists.{chain_of, link_count, times, spliced, EachOnce}
 use Rattle.seg_chain.proofs.Counts.{times-append}
 use Rattle.seg_chain.proofs.Laws.{length-spliced, chain_of-spliced_from, chain_of-spliced_to, chain_of-spliced_other}
 use Rattle.segment.specs.declared.segment.Role.{Role}
 use Rattle.segment.specs.declared.segment.Role.TheVariants.{Free, Current, From}
-use Rattle.segment.specs.Layout.{HasLength, space_index}
-use Rattle.segment.specs.Segments.{Segment, Start, IsSound, is_free, spot, set_aside, vacant}
+use Rattle.segment.specs.Segments.{Segment, IsSound, is_free, spot, set_aside}
 use Rattle.segment.proofs.Collected.{IsSound-aside}
-use Rattle.territory.specs.declared.counts.SegmentCounts.{SegmentCounts}
-use Rattle.territory.specs.Pools.{PoolView, numbered, list_of, list_for, IsIn, IsOpenFor, AreListed, AreOpen, AreDirty, AreCounted, IsSettled, used_words, is_held, cells_in, shows_dirty}
+use Rattle.territory.specs.Pools.{PoolView, numbered, list_of, list_for, IsIn, IsOpenFor, IsSettled, used_words, is_held, cells_in, shows_dirty}
 use Rattle.territory.specs.Changes.{AreSetAside, AreClosed}
 
 -- what a segment that is set aside keeps

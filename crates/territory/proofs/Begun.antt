@@ -1,13 +1,13 @@
 -- A generation more is set aside.
-use Rattle.std.proofs.Common.{◌≡◌, ◌≢◌, ℕ, zero, suc, ◌+◌, ◌*◌, ◌/◌, ◌%◌, ◌<◌, ◌≤◌, Bool, true, false, cond, nat_lt, ◌&&◌, List, [], ◌∷◌, ◌++◌, length, get_or, Option, Some, None, refl, sym, ◌∙◌, ap, subst, arith, inl, inr, ◌⊎◌}
+use Rattle.std.proofs.Common.{◌≡◌, ◌≢◌, ℕ, ◌+◌, ◌%◌, ◌<◌, ◌≤◌, Bool, true, false, cond, nat_lt, ◌&&◌, [], ◌++◌, length, get_or, None, refl, sym, ◌∙◌, ap, subst, arith, inl, inr, ◌⊎◌}
 use Rattle.std.proofs.lemmas.Bool.{cases_eq, cases_lt}
 use Rattle.std.proofs.lemmas.Bool.Decides.{nat_tests}
 use Rattle.std.proofs.lemmas.List.{get_or_past}
-use Rattle.seg_chain.specs.Lists.{chain_of, link_count, times, spliced}
+use Rattle.seg_chain.specs.Lists.{chain_of, times, spliced}
 use Rattle.seg_chain.proofs.Laws.{length-spliced, chain_of-spliced_from, chain_of-spliced_to, chain_of-spliced_other}
 use Rattle.segment.specs.declared.segment.Role.{Role}
 use Rattle.segment.specs.declared.segment.Role.TheVariants.{Free, Current, From}
-use Rattle.segment.specs.Segments.{Segment, is_free, set_aside}
+use Rattle.segment.specs.Segments.{Segment, set_aside}
 use Rattle.territory.specs.Pools.{PoolView, numbered, list_of, list_for, IsIn, IsSettled}
 use Rattle.territory.specs.Changes.{AreSetAside, AreClosed, AreBegun, begun, is_current}
 use Rattle.territory.proofs.Listing.{listed_at, in_use_linked}

@@ -1,5 +1,5 @@
 -- What `begin` leaves of a territory.
-use Rattle.std.proofs.Common.{◌≡◌, ◌≢◌, ℕ, ◌+◌, ◌*◌, ◌/◌, ◌%◌, ◌<◌, ◌≤◌, Bool, true, false, cond, nat_lt, nat_le, ◌&&◌, List, [], ◌∷◌, ◌++◌, length, get_or, map, Option, Some, None, option_map, refl, sym, ◌∙◌, ap, subst, arith, inl, inr}
+use Rattle.std.proofs.Common.{◌≡◌, ℕ, ◌+◌, ◌*◌, ◌%◌, ◌<◌, ◌≤◌, Bool, true, false, cond, nat_lt, nat_le, ◌&&◌, [], ◌++◌, get_or, map, Option, Some, None, option_map, refl, sym, ◌∙◌, ap, subst, arith, inl, inr}
 use Rattle.std.proofs.lemmas.Bool.{cases_lt}
 use Rattle.std.proofs.lemmas.Bool.Decides.{nat_tests}
 use Rattle.std.specs.FinMap.{get}
@@ -8,7 +8,7 @@ use Rattle.gc_words.specs.Layout.{segment_of}
 use Rattle.seg_chain.specs.Lists.{chain_of}
 use Rattle.segment.specs.declared.segment.Role.{Role}
 use Rattle.segment.specs.declared.segment.Role.TheVariants.{Free, Current, From}
-use Rattle.segment.specs.Segments.{Segment, Start, IsStart, is_free, spot, set_aside}
+use Rattle.segment.specs.Segments.{Segment, IsStart, is_free, spot, set_aside}
 use Rattle.territory.specs.declared.territory.Targets.{Targets}
 use Rattle.territory.specs.Territories.{SegmentView, TerritoryView, segment_at, byte_at, card_byte, when_begun, AreListsBegun, AreCardsSound}
 use Rattle.territory.specs.Pools.{PoolView, IsSettled, AreUsed, numbered, seen, starts_of, territory_view}

@@ -66,11 +66,12 @@ pub record AreSetAside (old new : List Segment) (list : List ℕ) : Type 0 where
 abbrev pub AreInUse : List Segment → List ℕ → Type 0
 AreInUse segments list = (n : ℕ) → 0 < times n list → is_free (numbered segments n).role ≡ false
 
--- The areas of a generation are closed, so many that were open. Of the spaces below `spaces` alone, for the loop over them.
+-- The areas of a generation are closed, of the spaces below `spaces` alone; so many of them were open.
 pub record AreClosed (old new : List (Option ℕ)) (generation spaces closed : ℕ) : Type 0 where
   pub same : length new ≡ length old
   pub inside : (k : ℕ) → k % 9 ≡ generation → k / 9 < spaces → slice_index_or new k None ≡ None
-  pub outside : (k : ℕ) → (k % 9 ≢ generation) ⊎ (spaces ≤ k / 9) → slice_index_or new k None ≡ slice_index_or old k None
+  pub outside : (k : ℕ) → (k % 9 ≢ generation) ⊎ (spaces ≤ k / 9)
+      → slice_index_or new k None ≡ slice_index_or old k None
   pub counted : count_by is_some new + closed ≡ count_by is_some old
 
 -- a segment where the generations below `end` are set aside
@@ -81,15 +82,20 @@ is_current _ = false
 abbrev pub begun : ℕ → Segment → Segment
 begun end p = if is_current p.role && nat_lt p.generation end then set_aside p else p
 
--- The generations below `end` are set aside: their segments stand in the lists of from-segments, behind those that
--- were there, and their areas are closed.
+-- The generations below `end` are set aside: their segments stand in the lists of from-segments, behind
+-- those that were there, and their areas are closed.
 pub record AreBegun (old new : PoolView) (end : ℕ) : Type 0 where
   pub same : length new.segments ≡ length old.segments
   pub segments : (n : ℕ) → numbered new.segments n ≡ begun end (numbered old.segments n)
   pub areas_same : length new.areas ≡ length old.areas
-  pub areas : (k : ℕ) → slice_index_or new.areas k None ≡ (if nat_lt (k % 9) end then None else slice_index_or old.areas k None)
+  pub areas : (k : ℕ)
+      → slice_index_or new.areas k None ≡ (if nat_lt (k % 9) end then None else slice_index_or old.areas k None)
   pub lists_same : length new.lists ≡ length old.lists
   pub free : chain_of new.lists 0 ≡ chain_of old.lists 0
-  pub current : (g : ℕ) → g < 9 → chain_of new.lists (1 + g) ≡ (if nat_lt g end then [] else chain_of old.lists (1 + g))
-  pub from : (g : ℕ) → g < 9 → chain_of new.lists (10 + g) ≡ (if nat_lt g end then chain_of old.lists (10 + g) ++ chain_of old.lists (1 + g) else chain_of old.lists (10 + g))
+  pub current : (g : ℕ) → g < 9
+      → chain_of new.lists (1 + g) ≡ (if nat_lt g end then [] else chain_of old.lists (1 + g))
+  pub from : (g : ℕ) → g < 9
+      → chain_of new.lists (10 + g)
+      ≡ (if nat_lt g end then chain_of old.lists (10 + g) ++ chain_of old.lists (1 + g)
+      else chain_of old.lists (10 + g))
   pub dirty : new.dirty ≡ old.dirty

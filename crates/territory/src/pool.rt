@@ -40,7 +40,13 @@ impl Model for Pool {
 
     ghost Value = { PoolView };
 
-    ghost view = { λ a. record { segments = a.segments.items; areas = a.areas.items; lists = a.lists; dirty = a.dirty; counts = a.counts } };
+    ghost view = { λ a. record {
+      segments = a.segments.items;
+      areas = a.areas.items;
+      lists = a.lists;
+      dirty = a.dirty;
+      counts = a.counts;
+    } };
 }
 
 fn closed_areas(alloc: Global, count: usize) -> Result<Vec<Option<usize>>, AllocError>

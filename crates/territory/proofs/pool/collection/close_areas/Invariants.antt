@@ -1,4 +1,4 @@
-use Rattle.std.proofs.Common.{◌≡◌, ◌≤◌, length}
+use Rattle.std.proofs.Common.{◌≤◌}
 use Rattle.territory.specs.Changes.{AreClosed}
 use Rattle.territory.proofs.pool.collection.close_areas.Given as goal
 

@@ -1,4 +1,4 @@
-use Rattle.std.proofs.Common.{refl, sym, ◌∙◌, arith}
+use Rattle.std.proofs.Common.{sym, ◌∙◌, arith}
 use Rattle.territory.proofs.Asides.{once_in, in_list, linked_at, next_here, aside_used, aside_more, aside_end, aside_all}
 use Rattle.territory.proofs.pool.collection.set_list_aside.Goals as goal
 
