@@ -1,10 +1,9 @@
 -- What the calls of `Segment` owe, over plain variables: `p` is the segment's fields, `now` what a contract sees.
-use Rattle.std.proofs.Common.{◌≡◌, ◌≢◌, ℕ, ◌+◌, ◌*◌, ◌<◌, ◌≤◌, ◌/◌, length, get_or, set, take, drop, replicate, Bool, true, false, List, sym, ◌∙◌, ap, subst, arith, length-drop}
-use Rattle.std.proofs.lemmas.List.{length-take}
+use Rattle.std.proofs.Common.{◌≡◌, ℕ, ◌+◌, ◌*◌, ◌<◌, length, set, replicate, Bool, true, false, List, sym, ◌∙◌, ap, subst, arith}
 use Rattle.cards.specs.Cards.{card_of, card_count}
 use Rattle.segment.specs.Layout.{skip_of, count_of, size_of}
 use Rattle.segment.specs.declared.segment.Role.TheVariants.{Current, From}
-use Rattle.segment.specs.Segments.{Segment, first_at, words_at, place_in, is_free, IsStart, IsSound, HasRoom, put_in, grown, marked_at, marked_births, kept_marked, start_at, kept_spot}
+use Rattle.segment.specs.Segments.{Segment, first_at, words_at, is_free, IsStart, IsSound, HasRoom, grown, marked_at, marked_births, kept_marked, start_at, kept_spot}
 use Rattle.segment.proofs.Sizes.{size_covers}
 use Rattle.segment.proofs.Changes.{IsSound-put, IsSound-grown}
 use Rattle.segment.proofs.Collected.{IsSound-marked, IsSound-kept, spot_kept_all}

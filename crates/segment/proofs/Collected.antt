@@ -1,11 +1,11 @@
 -- What a collection does with a segment leaves it sound, and what starts in it then.
-use Rattle.std.proofs.Common.{◌≡◌, ◌≢◌, ℕ, zero, suc, ◌+◌, ◌*◌, ◌/◌, ◌<◌, ◌≤◌, min, Bool, true, false, cond, eqb, List, [], ◌∷◌, length, get_or, set, replicate, Option, Some, None, refl, sym, ◌∙◌, ap, subst, arith, inl, inr, get_or-set_same, get_or-set_other}
-use Rattle.std.proofs.lemmas.List.{ext_get_or, get_or_past, length-set, length-replicate, get_or-replicate}
+use Rattle.std.proofs.Common.{◌≡◌, ◌≢◌, ℕ, zero, suc, ◌*◌, ◌<◌, ◌≤◌, min, Bool, true, false, cond, eqb, List, [], ◌∷◌, length, get_or, replicate, Some, None, refl, sym, ◌∙◌, ap, arith, inl, inr, get_or-set_same}
+use Rattle.std.proofs.lemmas.List.{get_or_past, length-set, length-replicate, get_or-replicate}
 use Rattle.std.proofs.lemmas.Bool.{cases_eq, cases_lt}
 use Rattle.gc_words.specs.declared.address.TheConstants.{OFFSETS}
 use Rattle.cards.specs.Cards.{card_of, card_count}
 use Rattle.segment.specs.declared.space.Space.{Space}
-use Rattle.segment.specs.declared.segment.Role.TheVariants.{Free, Current, From}
+use Rattle.segment.specs.declared.segment.Role.TheVariants.{Free, From}
 use Rattle.segment.specs.Segments.{Start, Segment, object_at, is_free, spot, IsStart, IsLaid, IsSound, vacant, opened, marked_at, set_aside, held_at, marked_births, kept_marked, in_generation, kept_spot, emptied, given_back}
 use Rattle.segment.proofs.Spots.{spot_is, spot_start, spot_none, spot_same, zero_at}
 
@@ -151,11 +151,20 @@ IsSound-held p k h aside = record {
   laid = record { top_in = h.laid.top_in; even = h.laid.even; zero_above = h.laid.zero_above; loose = h.laid.loose; fit = h.laid.fit; apart = h.laid.apart };
 }
 
-freed : Segment → Segment
-freed p = record p { role = Free; was_held = false; is_dirty = false }
+IsSound-emptied : (p : Segment) → IsSound p → IsSound (emptied p)
+IsSound-emptied p h = record {
+  small = omega arith;
+  births = omega arith;
+  marks = refl;
+  cards = λ some. absurd (omega arith);
+  clean = h.clean;
+  dirty = h.dirty;
+  free = h.free;
+  unheld = λ e k. refl;
+  laid = record { top_in = omega arith; even = refl; zero_above = λ i above. refl; loose = λ k above. refl; fit = λ k some. absurd (some refl); apart = λ j k lt some other. absurd (some refl) };
+}
 
-IsSound-freed : (p : Segment) → IsSound p → IsSound (freed p)
-unfolding freed
+IsSound-freed : (p : Segment) → IsSound p → IsSound (record p { role = Free; was_held = false; is_dirty = false })
 IsSound-freed p h = record {
   small = h.small;
   births = h.births;
@@ -168,26 +177,11 @@ IsSound-freed p h = record {
   laid = record { top_in = h.laid.top_in; even = h.laid.even; zero_above = h.laid.zero_above; loose = h.laid.loose; fit = h.laid.fit; apart = h.laid.apart };
 }
 
-IsSound-emptied : (p : Segment) → IsSound p → IsSound (emptied (freed p))
-unfolding freed
-IsSound-emptied p h = record {
-  small = omega arith;
-  births = omega arith;
-  marks = refl;
-  cards = λ some. absurd (omega arith);
-  clean = λ u. cc;
-  dirty = λ e. cc;
-  free = λ f. refl;
-  unheld = λ e. cc;
-  laid = record { top_in = omega arith; even = refl; zero_above = λ i above. refl; loose = λ k above. refl; fit = λ k some. absurd (some refl); apart = λ j k lt some other. absurd (some refl) };
-}
-
 pub IsSound-given_back : (p : Segment) → IsSound p → IsSound (given_back p)
-unfolding freed
 IsSound-given_back p h =
-    let whole : IsSound (freed p) = IsSound-freed p h in
-    let none : IsSound (emptied (freed p)) = IsSound-emptied p h in
-    elim (eqb (length p.births) 1) as (λ t. IsSound (cond t (emptied (freed p)) (freed p))) [ true ↦ none | false ↦ whole ]
+    let none : IsSound (record (emptied p) { role = Free; was_held = false; is_dirty = false }) = IsSound-freed (emptied p) (IsSound-emptied p h) in
+    let whole : IsSound (record p { role = Free; was_held = false; is_dirty = false }) = IsSound-freed p h in
+    elim (eqb (length p.births) 1) as (λ t. IsSound (let q : Segment = cond t (emptied p) p in record q { role = Free; was_held = false; is_dirty = false })) [ true ↦ none | false ↦ whole ]
 
 -- ---- what starts after these calls
 
@@ -222,7 +216,7 @@ spot_kept_all p generation k h used =
     ] refl
 
 pub spot_given_back : (p : Segment) (k : ℕ) → spot (given_back p) k ≡ None
-spot_given_back p k = elim (eqb (length p.births) 1) as (λ t. spot (let q : Segment = record p { role = Free; was_held = false; is_dirty = false } in cond t (emptied q) q) k ≡ None) [ true ↦ refl | false ↦ refl ]
+spot_given_back p k = refl
 
 pub spot_vacant : (k : ℕ) → spot vacant k ≡ None
 spot_vacant k = refl

@@ -1,17 +1,14 @@
 -- What starts where: `spot` after each change of a segment.
-use Rattle.std.proofs.Common.{◌≡◌, ◌≢◌, ℕ, zero, suc, ◌+◌, ◌-◌, ◌*◌, ◌/◌, ◌%◌, ◌<◌, ◌≤◌, Bool, true, false, cond, eqb, List, [], ◌∷◌, length, get_or, set, take, drop, replicate, Option, Some, None, refl, sym, ◌∙◌, ap, subst, arith, inl, inr, get_or-set_same, get_or-set_other, length-drop}
+use Rattle.std.proofs.Common.{◌≡◌, ◌≢◌, ℕ, zero, suc, ◌+◌, ◌-◌, ◌*◌, ◌/◌, ◌<◌, ◌≤◌, true, false, cond, eqb, List, [], ◌∷◌, length, get_or, set, take, drop, replicate, Option, Some, None, refl, sym, ◌∙◌, ap, arith, inl, inr, get_or-set_same, get_or-set_other, length-drop}
 use Rattle.std.proofs.lemmas.List.{ext_get_or, get_or_past, drop-set-lt, drop-set-add, take-set-le, length-set, length-take, length-take-le, get_or-take, get_or-drop, length-replicate, get_or-replicate}
 use Rattle.std.proofs.lemmas.Bool.{cases_eq, cases_lt}
 use Rattle.std.proofs.lemmas.Bool.Decides.{nat_tests}
 use Rattle.std.proofs.lemmas.Option.{same_Some}
-use Rattle.trace_types.specs.declared.kind.Kind.{Kind}
 use Rattle.segment.specs.declared.space.Space.{Space}
-use Rattle.segment.specs.declared.segment.Role.{Role}
-use Rattle.segment.specs.declared.segment.Role.TheVariants.{Free, Current, From}
 use Rattle.segment.specs.Layout.{skip_of, kind_of, length_of, count_of, size_of}
-use Rattle.segment.specs.Segments.{Start, Segment, first_at, size_at, words_at, object_at, start_at, is_free, spot, IsStart, place_in, IsLaid, IsSound, HasRoom, opened, put_in, grown}
+use Rattle.segment.specs.Segments.{Start, Segment, first_at, size_at, words_at, object_at, start_at, is_free, spot, IsStart, place_in, IsLaid, HasRoom, opened, put_in, grown}
 use Rattle.segment.proofs.Sizes.{size_covers, size_pos}
-use Rattle.segment.proofs.Changes.{IsRead, put_read, put_first_other, born_below, grown_first, grown_new_first}
+use Rattle.segment.proofs.Changes.{IsRead, put_read, put_first_other, grown_first, grown_new_first}
 
 -- ---- what a spot is
 
@@ -35,6 +32,17 @@ pub spot_none : (p : Segment) (k : ℕ) → get_or p.births k 0 ≡ 0 → spot p
 spot_none p k z =
     ap (λ v. cond (is_free p.role) None (cond (eqb v 0) None (Some (object_at p k)))) z
     ∙ elim (is_free p.role) as (λ t. let none : Option Start = None in cond t none none ≡ none) [ true ↦ refl | false ↦ refl ]
+
+pub spot_no_start : (p : Segment) (k : ℕ) → (IsStart p k → ⊥) → spot p k ≡ None
+spot_no_start p k never =
+    elim (is_free p.role) as (λ t. is_free p.role ≡ t → cond t None (start_at p k) ≡ None) [
+      | true ↦ λ f. refl
+      | false ↦ λ f.
+          elim (cases_eq (get_or p.births k 0) 0) [
+            | inl z ↦ ap (λ v. cond (eqb v 0) None (Some (object_at p k))) z
+            | inr some ↦ absurd (never (f, some))
+          ]
+    ] refl
 
 pub spot_free : (p : Segment) (k : ℕ) → is_free p.role ≡ true → spot p k ≡ None
 spot_free p k e = ap (λ t. cond t None (start_at p k)) e

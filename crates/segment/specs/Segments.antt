@@ -71,23 +71,26 @@ IsStart p k = (is_free p.role ≡ false) × (slice_index p.births k ≢ 0)
 
 -- ---- what a segment keeps
 
--- Objects lie apart and below the top, and above it all words are 0: so a new object needs its header and its birth alone.
+-- Objects lie apart and below the top, and above it all words are 0: so a new object needs its header and its
+-- birth alone.
 pub record IsLaid (p : Segment) : Type 0 where
   pub top_in : p.top ≤ length p.words
   pub even : p.top % 2 ≡ 0
   pub zero_above : (i : ℕ) → p.top ≤ i → slice_index p.words i ≡ 0
   pub loose : (k : ℕ) → p.top ≤ 2 * k → slice_index p.births k ≡ 0
   pub fit : (k : ℕ) → slice_index p.births k ≢ 0 → 2 * k + size_at p k ≤ p.top
-  pub apart : (j k : ℕ) → j < k → slice_index p.births j ≢ 0 → slice_index p.births k ≢ 0 → 2 * j + size_at p j ≤ 2 * k
+  pub apart : (j k : ℕ) → j < k → slice_index p.births j ≢ 0 → slice_index p.births k ≢ 0
+      → 2 * j + size_at p j ≤ 2 * k
 
--- Memory for a start each two words at most, a mark for each start and a card for each 64 words. A segment in use is
--- dirty where some card is not clean, and outside a collection it holds nothing.
+-- Memory for a start each two words at most, a mark for each start and a card for each 64 words. A segment in
+-- use is dirty where some card is not clean, and outside a collection it holds nothing.
 pub record IsSound (p : Segment) : Type 0 where
   pub small : length p.words ≤ OFFSETS
   pub births : 2 * length p.births ≤ length p.words
   pub marks : length p.marks ≡ length p.births
   pub cards : 0 < length p.births → length p.cards ≡ card_count (length p.words)
-  pub clean : is_free p.role ≡ false → p.is_dirty ≡ false → (card : ℕ) → card < length p.cards → slice_index p.cards card ≡ 255
+  pub clean : is_free p.role ≡ false → p.is_dirty ≡ false
+      → (card : ℕ) → card < length p.cards → slice_index p.cards card ≡ 255
   pub dirty : p.is_dirty ≡ true → (card : ℕ) × (card < length p.cards) × (slice_index p.cards card ≢ 255)
   pub free : is_free p.role ≡ true → p.is_dirty ≡ false
   pub unheld : p.role ≡ Current → (k : ℕ) → slice_index_or p.marks k false ≡ false
@@ -146,8 +149,8 @@ emptied p = record p { top = 0; words = []; births = []; marks = [] }
 -- given back: free, and the memory of a large object is let go
 abbrev pub given_back : Segment → Segment
 given_back p =
-    let q : Segment = record p { role = Free; was_held = false; is_dirty = false } in
-    if length p.births == 1 then emptied q else q
+    let q : Segment = if length p.births == 1 then emptied p else p in
+    record q { role = Free; was_held = false; is_dirty = false }
 
 -- with a new object at the top: its first word, size and birth
 abbrev pub grown : Segment → ℕ → ℕ → ℕ → Segment
@@ -206,11 +209,20 @@ kept_spot p generation k = if slice_index_or p.marks k false then in_generation 
 
 -- ---- the search for starts
 
+-- nothing is so from `from` up to `to`
+abbrev pub NoneWithin : (ℕ → Type 0) → ℕ → ℕ → Type 0
+NoneWithin P from to = (j : ℕ) → from ≤ j → j < to → P j → ⊥
+
+-- nothing is so from `from` on
+abbrev pub NoneFrom : (ℕ → Type 0) → ℕ → Type 0
+NoneFrom P from = (j : ℕ) → from ≤ j → P j → ⊥
+
 -- what starts at k ends past the first word of the card
 abbrev pub EndsPast : Segment → ℕ → ℕ → Type 0
-EndsPast p card k = WORDS_PER_CARD * card < 2 * k + size_at p k
+EndsPast p card k = IsStart p k × (WORDS_PER_CARD * card < 2 * k + size_at p k)
 
 -- start k has a word, its header counted, under a card whose byte is at most the limit
 abbrev pub HasDirtyWord : Segment → ℕ → ℕ → Type 0
 HasDirtyWord p limit k =
-    IsStart p k × ((word : ℕ) × (2 * k ≤ word) × (word < 2 * k + size_at p k) × IsDirty p.cards limit (card_of word))
+    IsStart p k
+    × ((word : ℕ) × (2 * k ≤ word) × (word < 2 * k + size_at p k) × IsDirty p.cards limit (card_of word))

@@ -88,8 +88,8 @@ pub(crate) fn length_of(space: Space, first: u64) -> u64
     }
 }
 
-/// The words after the header of an object of this kind and length.
-fn words_after(kind: Kind, length: u64) -> u64
+/// The words after the header of an object of this kind and length, for a length below 2^56.
+pub fn words_after(kind: Kind, length: u64) -> u64
     requires { length < 72057594037927936 }
     ensures value { result ≡ words_after kind length }
     ensures range { result ≤ length + 3 }
@@ -110,4 +110,35 @@ pub fn size(space: Space, first: u64) -> usize
 {
     let count = words_after(kind_of(space, first), length_of(space, first));
     (space.skip() + count as usize + 1) / 2 * 2
+}
+
+#[cfg(test)]
+mod tests {
+    use super::*;
+    use std::test::Fail;
+
+    #[test]
+    fn the_table_of_layouts(rt: HostRuntime) -> Result<(), Fail> {
+        for (kind, length, first, words) in [
+            (Kind::Pair, 2, 0, 2),
+            (Kind::Weak, 2, 0, 2),
+            (Kind::Eph, 2, 0, 2),
+            (Kind::Cell, 2, 0, 2),
+            (Kind::Boxed, 1, 0x107, 2),
+            (Kind::Vector, 3, 0x30f, 4),
+            (Kind::Vector, 4, 0x40f, 6),
+            (Kind::Bytes, 9, 0x917, 4),
+            (Kind::ImmVector, 0, 0x1f, 2),
+            (Kind::ImmBytes, 8, 0x827, 2),
+            (Kind::Guard, 0, 0x2f, 4),
+            (Kind::OrderedGuard, 0, 0x37, 4),
+        ] {
+            let space = Space::of(kind);
+            assert_eq!(rt; first_word(kind, length), first, "{kind:?}");
+            assert_eq!(rt; kind_of(space, first), kind, "{kind:?}");
+            assert_eq!(rt; length_of(space, first), u64::from(length), "{kind:?}");
+            assert_eq!(rt; size(space, first), words, "{kind:?}");
+        }
+        Ok(())
+    }
 }

@@ -1,7 +1,6 @@
 //! A segment: its making, its reading, and new objects and words in it.
 
-ghost use Rattle.std.specs.Prelude.{◌≡◌, ◌≢◌, ◌+◌, ◌/◌, ◌*◌, ◌<◌, ◌≤◌, ◌↔◌, false, length, slice_index, replicate, IfOk, OnOk, OnErr, IsTrue};
-ghost use Rattle.gc_words.specs.declared.address.TheConstants.{OFFSETS};
+ghost use Rattle.std.specs.Prelude.{◌≡◌, ◌≢◌, ◌+◌, ◌/◌, ◌*◌, ◌<◌, ◌≤◌, ◌↔◌, false, length, slice_index, IsTrue};
 ghost use Rattle.segment.specs.Layout.{size_of};
 ghost use Rattle.segment.specs.Segments.{IsStart, HasRoom, object_at, place_in, grown, put_in, marked_at};
 
@@ -51,9 +50,31 @@ impl Model for Segment {
 
     ghost Value = { Segment };
 
-    ghost view = { λ a. record { space = a.space; generation = a.generation; role = a.role; was_held = a.was_held; is_dirty = a.is_dirty; top = a.top; words = a.words.items; births = a.births.items; cards = a.cards; marks = a.marks.items } };
+    ghost view = { λ a. record {
+      space = a.space;
+      generation = a.generation;
+      role = a.role;
+      was_held = a.was_held;
+      is_dirty = a.is_dirty;
+      top = a.top;
+      words = a.words.items;
+      births = a.births.items;
+      cards = a.cards;
+      marks = a.marks.items;
+    } };
 
-    ghost invariant = { λ a. IsSound (record { space = a.space; generation = a.generation; role = a.role; was_held = a.was_held; is_dirty = a.is_dirty; top = a.top; words = a.words.items; births = a.births.items; cards = a.cards; marks = a.marks.items }) };
+    ghost invariant = { λ a. IsSound (record {
+      space = a.space;
+      generation = a.generation;
+      role = a.role;
+      was_held = a.was_held;
+      is_dirty = a.is_dirty;
+      top = a.top;
+      words = a.words.items;
+      births = a.births.items;
+      cards = a.cards;
+      marks = a.marks.items;
+    }) };
 }
 
 impl Segment {

@@ -1,12 +1,12 @@
 -- The map of starts has at each address what the segments have there.
-use Rattle.std.proofs.Common.{◌≡◌, ◌≢◌, ℕ, zero, suc, ◌+◌, ◌-◌, ◌*◌, ◌/◌, ◌%◌, ◌<◌, ◌≤◌, ◌==◌, ◌&&◌, Bool, true, false, cond, eqb, nat_lt, nat_le, List, [], ◌∷◌, ◌++◌, length, get_or, set, Option, Some, None, refl, sym, ◌∙◌, ap, subst, arith, inl, inr}
+use Rattle.std.proofs.Common.{◌≡◌, ◌≢◌, ℕ, zero, suc, ◌+◌, ◌-◌, ◌*◌, ◌/◌, ◌%◌, ◌<◌, ◌≤◌, ◌&&◌, Bool, true, false, cond, eqb, nat_le, List, [], ◌∷◌, ◌++◌, length, get_or, Option, Some, None, refl, sym, ◌∙◌, ap, subst, arith, inl, inr}
 use Rattle.std.proofs.lemmas.List.{get_or_past}
 use Rattle.std.proofs.lemmas.Bool.{cases_eq, cases_lt}
 use Rattle.std.proofs.lemmas.Bool.Decides.{nat_tests}
 use Rattle.std.specs.Ordering.{nat_cmp, eq_by_cmp}
 use Rattle.std.specs.Cmp.{nat_cmp_total}
-use Rattle.std.specs.FinMap.{FinMap, from_entries, find, get, insert, get-from_entries, get-insert, same_map, nat_cmp-IsAntisymmetric}
-use Rattle.gc_words.specs.declared.address.TheConstants.{SEGMENTS, OFFSETS}
+use Rattle.std.specs.FinMap.{FinMap, find, get, insert, get-from_entries, get-insert, same_map, nat_cmp-IsAntisymmetric}
+use Rattle.gc_words.specs.declared.address.TheConstants.{OFFSETS}
 use Rattle.segment.specs.Segments.{vacant, Segment, Start, is_free, start_at, spot}
 use Rattle.territory.specs.Pools.{numbered, start_in, entry, entries_in, entries_of, starts_of}
 
@@ -42,7 +42,7 @@ none_here : (b : Bool) (x : Start) (r : Option Start) → cond b (Some x) r ≡ 
 none_here true x r h s t k = cc
 none_here false x r h s t k = k h
 
-find-append_out : (q : ℕ) (es fs : List (ℕ × Start)) → find nat_cmp q es ≡ None → find nat_cmp q (es ++ fs) ≡ find nat_cmp q fs
+pub find-append_out : (q : ℕ) (es fs : List (ℕ × Start)) → find nat_cmp q es ≡ None → find nat_cmp q (es ++ fs) ≡ find nat_cmp q fs
 find-append_out q [] fs h = refl
 find-append_out q (e ∷ es) fs h = none_here (eq_by_cmp nat_cmp q e.0) e.1 (find nat_cmp q es) h (find nat_cmp q (es ++ fs)) (find nat_cmp q fs) (find-append_out q es fs)
 
@@ -57,7 +57,7 @@ find-append_left q (e ∷ es) fs h = none_or (eq_by_cmp nat_cmp q e.0) e.1 _ _ (
 abbrev pub AllSmall : List Segment → Type 0
 AllSmall segments = (i : ℕ) → i < length segments → 2 * length (numbered segments i).births ≤ OFFSETS
 
-small_tail : (p : Segment) (segments : List Segment) → AllSmall (p ∷ segments) → AllSmall segments
+pub small_tail : (p : Segment) (segments : List Segment) → AllSmall (p ∷ segments) → AllSmall segments
 small_tail p segments h i k = h (suc i) (omega arith)
 
 -- an address of no page from this one on has no entry

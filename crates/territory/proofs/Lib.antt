@@ -14,3 +14,11 @@ pub mod Reading
 pub mod Allocated
 pub mod Putting
 pub mod Worded
+pub mod Cells
+pub mod Dirties
+pub mod Nexts
+pub mod Showing
+pub mod Asides
+pub mod Beginning
+pub mod Begun
+pub mod BegunTerritory

@@ -4,6 +4,8 @@ ghost use Rattle.std.specs.Prelude.{◌≡◌, ◌<◌, ◌/◌, ◌↔◌, [], 
 ghost use Rattle.segment.specs.Segments.{IsStart};
 ghost use Rattle.territory.specs.Pools.{IsSettled, numbered};
 
+mod collection;
+mod lists;
 mod numbers;
 mod objects;
 mod room;
@@ -38,7 +40,13 @@ impl Model for Pool {
 
     ghost Value = { PoolView };
 
-    ghost view = { λ a. record { segments = a.segments.items; areas = a.areas.items; lists = a.lists; dirty = a.dirty; counts = a.counts } };
+    ghost view = { λ a. record {
+      segments = a.segments.items;
+      areas = a.areas.items;
+      lists = a.lists;
+      dirty = a.dirty;
+      counts = a.counts;
+    } };
 }
 
 fn closed_areas(alloc: Global, count: usize) -> Result<Vec<Option<usize>>, AllocError>
@@ -88,5 +96,12 @@ impl Pool {
         ensures { IsTrue result ↔ IsStart (numbered self.now.segments n) (offset / 2) }
     {
         n < self.segments.len() && self.segments[n].is_start(offset)
+    }
+
+    /// The counters.
+    pub fn counts(&self) -> SegmentCounts
+        ensures { result ≡ self.now.counts }
+    {
+        self.counts
     }
 }

@@ -1,12 +1,14 @@
 //! The segments of one creator thread.
 
-ghost use Rattle.std.specs.Prelude.{◌≡◌, ℕ, ◌<◌, ◌↔◌, ◌/◌, Option, length, slice_index, IfOk, IfSome, IsSome, IsTrue};
+ghost use Rattle.std.specs.Prelude.{◌≡◌, ℕ, ◌<◌, ◌↔◌, ◌*◌, ◌/◌, Option, length, slice_index, IfOk, IfSome, IsSome, IsTrue};
 ghost use Rattle.std.specs.FinMap as map;
 ghost use Rattle.gc_words.specs.declared.address.TheConstants.{THREADS};
-ghost use Rattle.gc_words.specs.Layout.{segment_of, offset_of};
+ghost use Rattle.gc_words.specs.Layout.{address_of, segment_of, offset_of};
 ghost use Rattle.territory.specs.Territories.{no_territory, words_of, with_word, IsShaped, TellsLower, AreCardsSound};
 
 mod allocating;
+mod collecting;
+mod listing;
 
 use crate::pool::Pool;
 use gc_words::{Address, THREADS};
@@ -39,7 +41,7 @@ impl Model for Territory {
     ghost use Rattle.std.specs.Prelude.{◌<◌};
     ghost use Rattle.gc_words.specs.declared.address.TheConstants.{THREADS};
     ghost use Rattle.territory.specs.Territories.{TerritoryView, coded_territory};
-    ghost use Rattle.territory.specs.Pools.{IsSettled, territory_view};
+    ghost use Rattle.territory.specs.Pools.{IsSettled, AreUsed, territory_view};
 
     ghost Value = { TerritoryView };
 
@@ -47,7 +49,7 @@ impl Model for Territory {
 
     ghost view = { λ a. territory_view a.thread a.pool a.targets };
 
-    ghost invariant = { λ a. (a.thread < THREADS) × IsSettled a.pool };
+    ghost invariant = { λ a. (a.thread < THREADS) × IsSettled a.pool × AreUsed a.pool.segments };
 }
 
 /// The number of the segment of an address, and the number of its start there: one for each two words.
@@ -84,7 +86,8 @@ impl Territory {
         if at.thread() != self.thread {
             return false;
         }
-        self.pool.is_start(at.segment() as usize, at.offset() as usize)
+        self.pool
+            .is_start(at.segment() as usize, at.offset() as usize)
     }
 
     /// The kind of a start.
@@ -143,11 +146,21 @@ impl Territory {
     pub fn put(&mut self, at: Address, index: u32, word: u64, refers: u8)
         requires { index < length (words_of (map.get self.old.starts at)) }
         ensures after { self.new ≡ with_word self.old at index word refers }
-        ensures sound { (generation_at : ℕ → Option ℕ) → TellsLower generation_at (map.get self.old.starts at) word refers
+        ensures sound { (generation_at : ℕ → Option ℕ)
+            → TellsLower generation_at (map.get self.old.starts at) word refers
             → AreCardsSound generation_at self.old → AreCardsSound generation_at self.new }
     {
         let (segment, start) = place(at);
         self.pool.put(segment, start, index as usize, word);
         self.pool.note(segment, start, index as usize, refers);
+    }
+
+    /// The address of start `k` of segment `n`.
+    fn address(&self, n: usize, k: usize) -> Address
+        requires within { n < length self.now.segments }
+        requires start { k < 4194304 }
+        ensures { result ≡ address_of self.now.thread n (2 * k) }
+    {
+        Address::at(self.thread, n as u64, 2 * k as u32)
     }
 }

@@ -120,9 +120,8 @@ impl Segment {
         }
     }
 
-    /// Lets the memory of a free segment go.
+    /// Lets the memory for objects go.
     fn empty(&mut self)
-        requires { is_free self.old.role ≡ true }
         ensures { self.new ≡ emptied self.old }
     {
         let alloc = *self.words.allocator();
@@ -169,5 +168,25 @@ fn clear_cards(cards: &mut CardTable, count: usize)
 {
     for card in 0..count {
         cards.clear(card);
+    }
+}
+
+#[cfg(test)]
+mod tests {
+    use super::*;
+    use std::test::Fail;
+
+    #[test]
+    fn memory_is_taken_and_given_back(rt: HostRuntime) -> Result<(), Fail> {
+        let mut segment = Segment::vacant(rt.alloc())?;
+        assert_eq!(rt; (segment.role(), segment.words()), (Role::Free, 0));
+        segment.open(Space::Pair, 0, 512, 256)?;
+        assert!(rt; segment.has_room(512) && !segment.has_room(513));
+        segment.give_back();
+        segment.open(Space::Raw, 3, 1002, 1)?;
+        assert_eq!(rt; (segment.words(), segment.next_start(0)), (1002, None));
+        segment.give_back();
+        assert_eq!(rt; (segment.role(), segment.words()), (Role::Free, 0));
+        Ok(())
     }
 }

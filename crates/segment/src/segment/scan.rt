@@ -2,7 +2,7 @@
 
 ghost use Rattle.std.specs.Prelude.{◌≡◌, ◌≢◌, ℕ, ◌+◌, ◌*◌, ◌<◌, ◌≤◌, length, slice_index, false, IfSome, IfNone};
 ghost use Rattle.cards.specs.declared.table.TheConstants.{CLEAN};
-ghost use Rattle.segment.specs.Segments.{IsStart, HasDirtyWord, EndsPast, is_free};
+ghost use Rattle.segment.specs.Segments.{IsStart, HasDirtyWord, EndsPast, NoneWithin, NoneFrom, is_free};
 
 use super::{Role, Segment};
 use crate::layout::size;
@@ -15,8 +15,8 @@ impl Segment {
     /// The least k at or after `from` such that something starts at offset 2 k.
     pub fn next_start(&self, from: usize) -> Option<usize>
         ensures some { IfSome result (λ k. (from ≤ k) × IsStart self.now k) }
-        ensures least { IfSome result (λ k. (j : ℕ) → from ≤ j → j < k → IsStart self.now j → ⊥) }
-        ensures none { IfNone result ((j : ℕ) → from ≤ j → IsStart self.now j → ⊥) }
+        ensures least { IfSome result (NoneWithin (IsStart self.now) from) }
+        ensures none { IfNone result (NoneFrom (IsStart self.now) from) }
     {
         if self.role == Role::Free {
             return None;
@@ -30,8 +30,8 @@ impl Segment {
     pub fn next_old(&self, from: usize, limit: u8) -> Option<usize>
         requires { limit < CLEAN }
         ensures some { IfSome result (λ k. (from ≤ k) × HasDirtyWord self.now limit k) }
-        ensures least { IfSome result (λ k. (j : ℕ) → from ≤ j → j < k → HasDirtyWord self.now limit j → ⊥) }
-        ensures none { IfNone result ((j : ℕ) → from ≤ j → HasDirtyWord self.now limit j → ⊥) }
+        ensures least { IfSome result (NoneWithin (HasDirtyWord self.now limit) from) }
+        ensures none { IfNone result (NoneFrom (HasDirtyWord self.now limit) from) }
     {
         if self.role == Role::Free {
             return None;
@@ -59,9 +59,9 @@ impl Segment {
         requires used { is_free self.now.role ≡ false }
         requires from_in { from < length self.now.births }
         requires card_in { card < length self.now.cards }
-        ensures some { IfSome result (λ k. (from ≤ k) × IsStart self.now k × EndsPast self.now card k) }
-        ensures least { IfSome result (λ k. (j : ℕ) → from ≤ j → j < k → IsStart self.now j → EndsPast self.now card j → ⊥) }
-        ensures none { IfNone result ((j : ℕ) → from ≤ j → IsStart self.now j → EndsPast self.now card j → ⊥) }
+        ensures some { IfSome result (λ k. (from ≤ k) × EndsPast self.now card k) }
+        ensures least { IfSome result (NoneWithin (EndsPast self.now card) from) }
+        ensures none { IfNone result (NoneFrom (EndsPast self.now card) from) }
     {
         match self.covering(from, card) {
             Some(k) => Some(k),
@@ -74,9 +74,9 @@ impl Segment {
         requires used { is_free self.now.role ≡ false }
         requires from_in { from < length self.now.births }
         requires card_in { card < length self.now.cards }
-        ensures some { IfSome result (λ k. (from ≤ k) × IsStart self.now k × EndsPast self.now card k) }
-        ensures least { IfSome result (λ k. (j : ℕ) → from ≤ j → j < k → IsStart self.now j → EndsPast self.now card j → ⊥) }
-        ensures none { IfNone result ((j : ℕ) → from ≤ j → j < card * 32 → IsStart self.now j → EndsPast self.now card j → ⊥) }
+        ensures some { IfSome result (λ k. (from ≤ k) × EndsPast self.now card k) }
+        ensures least { IfSome result (NoneWithin (EndsPast self.now card) from) }
+        ensures none { IfNone result (NoneWithin (EndsPast self.now card) from (card * 32)) }
     {
         let at = self.births.len().min(card * STARTS_PER_CARD);
         let k = last_born(&self.births, from, at)?;

@@ -1,7 +1,7 @@
-use Rattle.std.proofs.Common.{ap, sym, ◌∙◌, subst}
+use Rattle.std.proofs.Common.{ap, sym, ◌∙◌}
 use Rattle.std.specs.FinMap as map
-use Rattle.territory.specs.Territories.{TerritoryView, IsPlaced, fresh_start}
-use Rattle.territory.proofs.Allocated.{size_seen, size_is, fits_seen, refused, made, address_is, was_nothing, one_start, placed, placed_for, size_for_is, sound_made, on_err}
+use Rattle.territory.specs.Territories.{TerritoryView, fresh_start}
+use Rattle.territory.proofs.Allocated.{size_seen, fits_seen, refused, made, address_is, was_nothing, one_start, placed, placed_for, size_for_is, sound_made, used_made, on_err}
 use Rattle.territory.proofs.territory.Territory.allocate.Goals as goal
 
 pub room_for-requires-clause-some : goal.room_for-requires-clause-some
@@ -38,3 +38,6 @@ returns-clause-sound c =
     let d = made _ _ _ _ _ _ _ _ _ _ _ c.self.invariant.1 c.room_for.ensures.settled c.grow-offset.ensures.settled c.in_ok-n.ensures.ok c.grow-offset.ensures.segments c.size-words.ensures c.requires.born c.of-space.ensures c.first_word-first.ensures in
     λ before after. sound_made _ _ _ _ _ _ _ _ _ _ _ _ _ _ _ before after c.self.view_is d
     (one_start _ _ _ _ _ _ _ _ _ _ _ _ _ d (address_is _ _ _ _ _ c.at.ensures.value c.grow-offset.ensures.offset) c.requires.length_in c.of-space.ensures c.first_word-first.ensures)
+
+pub invariant_of-self-2 : goal.invariant_of-self-2
+invariant_of-self-2 c = (c.self.invariant.0, c.grow-offset.ensures.settled, used_made _ _ _ _ _ _ _ _ _ (made _ _ _ _ _ _ _ _ _ _ _ c.self.invariant.1 c.room_for.ensures.settled c.grow-offset.ensures.settled c.in_ok-n.ensures.ok c.grow-offset.ensures.segments c.size-words.ensures c.requires.born c.of-space.ensures c.first_word-first.ensures) c.self.invariant.2)
