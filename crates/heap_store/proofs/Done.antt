@@ -74,8 +74,8 @@ done h seen same invariant alive i n d old new a line shape thread read number i
     let found : slice_get h.territories i ≡ Some old = territory_there h i old valid (omega (arith, thread, in_range)) read in
     let last = ap (λ (v : HeapView). v.last) same in
     let at : IsDone h (with_made h h.thread new x.birth d a) x x.birth d =
-        done_at h valid d old new a x (ap (slice_get h.territories) (sym thread) ∙ found) is (shape_young line shape) lacks plain (omega (arith, above, birth, last)) (omega (arith, within, birth))
-        (subst (λ (v : HeapView). IsLaidOut (starts_of v) x) (sym same) laid) in
+    done_at h valid d old new a x (ap (slice_get h.territories) (sym thread) ∙ found) is (shape_young line shape) lacks plain (omega (arith, above, birth, last)) (omega (arith, within, birth))
+    (subst (λ (v : HeapView). IsLaidOut (starts_of v) x) (sym same) laid) in
     subst (λ (v : HeapView). IsDone v (with_made h i new line n a) x line d) same
     (subst (λ m. IsDone h (with_made h i new line m a) x line d) (sym number)
     (subst (λ j. IsDone h (with_made h j new line d a) x line d) (sym thread)

@@ -213,7 +213,7 @@ byte_got (Some x) i w bytes z k ez eb ew there same is =
     let small = bytes_small (get_or x.words (i / 8) 0) (i % 8) in
     ap (λ v. word.Fixnum (to_z w64 (of_z w64 v))) (ez ∙ ap pos byte)
     ∙ ap word.Fixnum (to_z-of_z w64 (pos (byte_at x.words i)) (omega (arith, small)))
-    ∙ ap (λ b. cond b (word.Fixnum (pos (byte_at x.words i))) (or_nil (value_of (get_or x.words i 0)))) (sym (ap has_bytes (sym same) ∙ elim is [ | inl e ↦ ap has_bytes e | inr e ↦ ap has_bytes e ]))
+    ∙ ap (λ b. cond b (word.Fixnum (pos (byte_at x.words i))) (or_nil (value_of (get_or x.words i 0)))) (sym (ap has_bytes (sym same) ∙ elim is [ inl e ↦ ap has_bytes e | inr e ↦ ap has_bytes e ]))
 
 -- a guardian has no fields
 pub guardian_none : (h : HeapView) (r a : ℕ) (o : Option Start) (k : Kind) (v : Option ℕ) → v ≡ place_in (get_or h.registers r word.Nil) → v ≡ Some a → IsTrue (is_object (starts_of h a)) → o ≡ starts_of h a → IfSome o (λ x. k ≡ x.kind)
@@ -227,7 +227,7 @@ guardian_none h r a o k v place is there here same guard s stands = by_start o h
     by_start None e k_is = absurd (false≢true (ap is_object e ∙ there))
     by_start (Some x) e k_is =
         guardian_has_none h s stands r a x holds (sym e) (not_true (is_cell x.kind) (ap is_object e ∙ there))
-        (ap is_guardian (sym k_is) ∙ elim guard [ | inl g ↦ ap is_guardian g | inr g ↦ ap is_guardian g ])
+        (ap is_guardian (sym k_is) ∙ elim guard [ inl g ↦ ap is_guardian g | inr g ↦ ap is_guardian g ])
       where
         not_true : (b : Bool) → not b ≡ true → b ≡ false
         not_true true n = absurd (false≢true n)

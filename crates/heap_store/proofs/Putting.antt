@@ -13,7 +13,6 @@ use Rattle.trace_types.specs.declared.kind.Kind.{Kind}
 use Rattle.segment.specs.declared.space.Space.{Space}
 use Rattle.segment.specs.Segments.{Start}
 use Rattle.territory.specs.Territories.{SegmentView, TerritoryView, segment_at, words_of, put_start, fresh_start, with_card, with_word, needs_mark, IsPlaced, IsToldMore, TellsLower, AreCardsSound, has_values}
-
 use Rattle.heap_store.specs.Starts.{lasting}
 use Rattle.heap_store.specs.Changes.{HasNoFrom, IsStartChanged, IsMade, IsRewritten, new_start, filled}
 

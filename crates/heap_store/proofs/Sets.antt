@@ -131,8 +131,7 @@ module _ (h : HeapView) (r a i : ℕ) (is : IsFielded h r a) (op : Operand) (v :
         let byte = put.byte e in
         let at : word_index x.kind i ≡ i / 8 = ap (λ t. cond t (i / 8) i) e in
         let room = field_room h valid r a i x.length (Some x) is (sym is.here) refl put.within in
-        let within_words : i / 8 < length x.words = subst (λ n. n < length x.words) at room in
-        (
+        let within_words : i / 8 < length x.words = subst (λ n. n < length x.words) at room in (
           subst (λ n. IsLaidOut f (record x { words = set x.words n put.put_word })) (sym at) (byte_laid_out f x i put.put_word byte.0 e within_words put.within byte.3 laid),
           ap (λ n. fields_of f (record x { words = set x.words n put.put_word })) at ∙ byte_set f x i put.put_word byte.0 e within_words byte.3 ∙ ap (λ w. set (fields_of f x) i (read f w)) (sym byte.2),
           ap (λ t. cond t (is_byte (read f v)) (is_value (read f v))) e ∙ ap (λ w. is_byte (read f w)) byte.2 ∙ lt-ltb byte.0 256 byte.1,
@@ -140,8 +139,7 @@ module _ (h : HeapView) (r a i : ℕ) (is : IsFielded h r a) (op : Operand) (v :
     both false e =
         let value = put.value e in
         let at : word_index x.kind i ≡ i = ap (λ t. cond t (i / 8) i) e in
-        let values : IsTrue (has_values x.kind) = ap (λ t. not t && not (is_guardian x.kind) && not (is_cell x.kind)) e ∙ ap (λ t. not t && not (is_cell x.kind)) is.no_guardian ∙ ap not is.no_cell in
-        (
+        let values : IsTrue (has_values x.kind) = ap (λ t. not t && not (is_guardian x.kind) && not (is_cell x.kind)) e ∙ ap (λ t. not t && not (is_cell x.kind)) is.no_guardian ∙ ap not is.no_cell in (
           subst (λ n. IsLaidOut f (record x { words = set x.words n put.put_word })) (sym at)
               (value_laid_out f x i put.put_word values (subst (IsThereOption f) (sym value.0) v_there) laid),
           ap (λ n. fields_of f (record x { words = set x.words n put.put_word })) at ∙ value_set f x i put.put_word values ∙ ap (λ o. set (fields_of f x) i (read_option f o)) value.0,

@@ -111,13 +111,7 @@ impl Heap {
 
     /// Makes a byte object of so many times the byte on this line, and puts it into a register. Takes memory; refused,
     /// the heap has failed. A length above 1,000,000, or 4,000,000 in version 2, is the fault `BadLength`.
-    pub fn bytes(
-        &mut self,
-        line: u32,
-        d: Register,
-        length: u32,
-        byte: u8,
-    ) -> Result<(), HeapError>
+    pub fn bytes(&mut self, line: u32, d: Register, length: u32, byte: u8) -> Result<(), HeapError>
         requires newer { self.old.last < line }
         requires line { line ≤ greatest_line }
         ensures step { (s : State) → Stands self.old s → Obeys s (step s line (Command.Bytes d length byte)) result self.new }

@@ -33,6 +33,17 @@ spot_none p k z =
     ap (λ v. cond (is_free p.role) None (cond (eqb v 0) None (Some (object_at p k)))) z
     ∙ elim (is_free p.role) as (λ t. let none : Option Start = None in cond t none none ≡ none) [ true ↦ refl | false ↦ refl ]
 
+pub spot_no_start : (p : Segment) (k : ℕ) → (IsStart p k → ⊥) → spot p k ≡ None
+spot_no_start p k never =
+    elim (is_free p.role) as (λ t. is_free p.role ≡ t → cond t None (start_at p k) ≡ None) [
+      | true ↦ λ f. refl
+      | false ↦ λ f.
+          elim (cases_eq (get_or p.births k 0) 0) [
+            | inl z ↦ ap (λ v. cond (eqb v 0) None (Some (object_at p k))) z
+            | inr some ↦ absurd (never (f, some))
+          ]
+    ] refl
+
 pub spot_free : (p : Segment) (k : ℕ) → is_free p.role ≡ true → spot p k ≡ None
 spot_free p k e = ap (λ t. cond t None (start_at p k)) e
 

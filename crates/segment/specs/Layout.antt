@@ -1,4 +1,4 @@
--- How objects lie in words. A space decides whether objects have headers; a header holds the kind and the length.
+-- How objects lie in words. A space decides whether objects have headers; a header holds kind and length.
 use Rattle.std.specs.Prelude.{◌≡◌, ◌≤◌, ℕ, ◌+◌, ◌*◌, ◌/◌, ◌%◌, ◌==◌, Bool, true, false, if◌then◌else◌}
 use Rattle.trace_types.specs.declared.kind.Kind.{Kind}
 use Rattle.trace_types.specs.declared.kind.Kind.TheVariants as kind

@@ -71,8 +71,8 @@ IsStart p k = (is_free p.role ≡ false) × (slice_index p.births k ≢ 0)
 
 -- ---- what a segment keeps
 
--- Objects lie apart and below the top, and above it all words are 0: so a new object needs its header and its birth
--- alone.
+-- Objects lie apart and below the top, and above it all words are 0: so a new object needs its header and its
+-- birth alone.
 pub record IsLaid (p : Segment) : Type 0 where
   pub top_in : p.top ≤ length p.words
   pub even : p.top % 2 ≡ 0
@@ -82,8 +82,8 @@ pub record IsLaid (p : Segment) : Type 0 where
   pub apart : (j k : ℕ) → j < k → slice_index p.births j ≢ 0 → slice_index p.births k ≢ 0
       → 2 * j + size_at p j ≤ 2 * k
 
--- Memory for a start each two words at most, a mark for each start and a card for each 64 words. A segment in use is
--- dirty where some card is not clean, and outside a collection it holds nothing.
+-- Memory for a start each two words at most, a mark for each start and a card for each 64 words. A segment in
+-- use is dirty where some card is not clean, and outside a collection it holds nothing.
 pub record IsSound (p : Segment) : Type 0 where
   pub small : length p.words ≤ OFFSETS
   pub births : 2 * length p.births ≤ length p.words
@@ -224,4 +224,5 @@ EndsPast p card k = IsStart p k × (WORDS_PER_CARD * card < 2 * k + size_at p k)
 -- start k has a word, its header counted, under a card whose byte is at most the limit
 abbrev pub HasDirtyWord : Segment → ℕ → ℕ → Type 0
 HasDirtyWord p limit k =
-    IsStart p k × ((word : ℕ) × (2 * k ≤ word) × (word < 2 * k + size_at p k) × IsDirty p.cards limit (card_of word))
+    IsStart p k
+    × ((word : ℕ) × (2 * k ≤ word) × (word < 2 * k + size_at p k) × IsDirty p.cards limit (card_of word))

@@ -1,30 +1,28 @@
 -- What `allocate` leaves.
-use Rattle.std.proofs.Common.{◌≡◌, ◌≢◌, ℕ, ◌+◌, ◌*◌, ◌/◌, ◌%◌, ◌<◌, ◌≤◌, Bool, true, false, cond, List, [], ◌∷◌, length, get_or, set, map, replicate, Option, Some, None, IsSome, IsNone, IfSome, Result, Ok, Err, OnErr, refl, sym, ◌∙◌, ap, subst, arith, inl, inr, ◌⊎◌}
+use Rattle.std.proofs.Common.{◌≡◌, ◌≢◌, ℕ, ◌+◌, ◌*◌, ◌/◌, ◌<◌, ◌≤◌, true, false, cond, [], length, get_or, set, map, replicate, Option, Some, None, IsSome, IsNone, IfSome, Result, Ok, Err, OnErr, refl, sym, ◌∙◌, ap, subst, arith, inl, inr}
 use Rattle.std.proofs.lemmas.Bool.{cases_eq}
 use Rattle.std.proofs.lemmas.List.{length-set, length-replicate, get_or-replicate}
 use Rattle.std.proofs.lemmas.Option.{same_Some}
 use Rattle.gc_words.specs.declared.value.Value.TheVariants as value
 use Rattle.gc_words.specs.Word.{value_of}
 use Rattle.cards.specs.Cards.{card_count}
-use Rattle.std.specs.List.{slice_get}
 use Rattle.std.specs.FinMap.{get, insert}
-use Rattle.gc_words.specs.declared.address.TheConstants.{SEGMENTS, OFFSETS, THREADS}
-use Rattle.gc_words.specs.Layout.{address_of, thread_of, segment_of, offset_of, IsAddress, HasParts, IsMadeOf}
-use Rattle.gc_words.proofs.LayoutLaws.{address_of_valid}
-use Rattle.seg_chain.specs.Lists.{chain_of, moved}
+use Rattle.gc_words.specs.declared.address.TheConstants.{SEGMENTS, OFFSETS}
+use Rattle.gc_words.specs.Layout.{address_of, segment_of}
+use Rattle.seg_chain.specs.Lists.{chain_of}
 use Rattle.trace_types.specs.declared.kind.Kind.{Kind}
 use Rattle.segment.specs.declared.space.Space.{Space}
-use Rattle.segment.specs.declared.segment.Role.TheVariants.{Free, Current, From}
+use Rattle.segment.specs.declared.segment.Role.TheVariants.{Free, Current}
 use Rattle.segment.specs.Layout.{space_of, first_word, size_of, skip_of, kind_of, length_of, count_of, words_after, HasLength}
-use Rattle.segment.specs.Segments.{Segment, Start, IsSound, HasRoom, IsStart, is_free, grown, opened, spot}
+use Rattle.segment.specs.Segments.{Segment, Start, IsSound, IsStart, is_free, grown, opened, spot}
 use Rattle.segment.proofs.Sizes.{size_pos, first_kind, first_length, first_count, first_bare, first_size_le}
 use Rattle.segment.proofs.Spots.{spot_is, spot_free, spot_grown, spot_grown_other, spot_top, spot_opened}
 use Rattle.territory.specs.declared.territory.Targets.{Targets}
-use Rattle.territory.specs.Territories.{SegmentView, TerritoryView, no_territory, segment_at, fresh_start, fresh_segment, size_for, area_of, words_for, is_large, areas_for, IsNextNumber, with_number, IsPlaced, IsAsBefore, Refers, IsToldMore, AreCardsSound, card_byte, byte_at}
+use Rattle.territory.specs.Territories.{SegmentView, TerritoryView, no_territory, segment_at, fresh_start, fresh_segment, size_for, words_for, IsPlaced, IsAsBefore, Refers, IsToldMore, AreCardsSound, card_byte, byte_at}
 use Rattle.territory.specs.Pools.{PoolView, IsSettled, AreUsed, numbered, starts_of, seen, is_from_role, territory_view}
-use Rattle.territory.specs.Changes.{IsSame, IsOpened, WasOpen, IsRoom}
+use Rattle.territory.specs.Changes.{IsSame, IsRoom}
 use Rattle.territory.proofs.Numbers.{numbered-set_same, numbered-set_other, seen_at}
-use Rattle.territory.proofs.Entries.{AllSmall, get-starts}
+use Rattle.territory.proofs.Entries.{get-starts}
 use Rattle.territory.proofs.Slots.{all_small, same_map, IsSlot, start_here, changed_map, get_here, get_other, starts_of_none}
 use Rattle.territory.proofs.Present.{IsPresent, present}
 
@@ -33,8 +31,8 @@ pub size_seen : (kind : Kind) (len first size : ℕ) (s : Space) → HasLength k
 size_seen kind len first size s h es ef z = (
   subst (λ v. 2 ≤ v) (sym z) (size_pos s first),
   let l : size_of (space_of kind) (first_word kind len) ≤ 4000006 = first_size_le kind len h in
-  let same : size_of s first ≡ size_of (space_of kind) (first_word kind len) = ap (λ v. size_of v first) es ∙ ap (size_of (space_of kind)) ef in
-  omega arith,
+      let same : size_of s first ≡ size_of (space_of kind) (first_word kind len) = ap (λ v. size_of v first) es ∙ ap (size_of (space_of kind)) ef in
+      omega arith,
 )
 
 pub size_is : (kind : Kind) (len : ℕ) → HasLength kind len → size_of (space_of kind) (first_word kind len) ≡ size_for kind len

@@ -1,9 +1,8 @@
 -- The counters, told of what contracts see.
-use Rattle.std.proofs.Common.{◌≡◌, ◌≢◌, ℕ, zero, suc, ◌+◌, ◌*◌, ◌/◌, ◌%◌, ◌<◌, ◌≤◌, Bool, true, false, cond, not, eqb, ◌&&◌, List, [], ◌∷◌, ◌++◌, length, get_or, map, take, is_some, Option, Some, None, refl, sym, ◌∙◌, ap, subst, arith, inl, inr, append_assoc, add-one}
+use Rattle.std.proofs.Common.{◌≡◌, ℕ, zero, suc, ◌+◌, ◌*◌, ◌/◌, ◌%◌, ◌<◌, ◌≤◌, Bool, true, false, cond, not, eqb, List, [], ◌∷◌, ◌++◌, length, get_or, map, take, Option, Some, None, refl, sym, ◌∙◌, ap, arith, append_assoc, add-one}
 use Rattle.std.proofs.lemmas.List.{take_more, take_all}
 use Rattle.std.proofs.lemmas.List.Sums.{sum_by-cons, sum_by_push}
 use Rattle.std.proofs.lemmas.Bool.Decides.{nat_tests}
-use Rattle.std.specs.declared.cmp.Ordering.{Ordering}
 use Rattle.std.specs.declared.cmp.Ordering.TheVariants.{Less, Equal, Greater}
 use Rattle.std.specs.List.{sum_by, count_by}
 use Rattle.std.specs.Ordering.{nat_cmp, is_eq}
@@ -12,12 +11,10 @@ use Rattle.std.specs.FinMap.{FinMap, from_entries, find, put, get, insert, value
 use Rattle.std.specs.FinMap.Entries.{by_order}
 use Rattle.segment.specs.declared.segment.Role.TheVariants.{Free, Current, From}
 use Rattle.gc_words.specs.declared.address.TheConstants.{OFFSETS}
-use Rattle.trace_types.specs.declared.kind.Kind.{Kind}
-use Rattle.trace_types.specs.declared.kind.Kind.TheVariants as kind
 use Rattle.segment.specs.declared.space.Space.{Space}
 use Rattle.segment.specs.declared.space.Space.TheVariants as space
 use Rattle.segment.specs.Layout.{kind_of, kind_of_code}
-use Rattle.segment.specs.Segments.{Segment, Start, is_free, first_at, object_at, spot, vacant}
+use Rattle.segment.specs.Segments.{Segment, Start, is_free, first_at, object_at, spot}
 use Rattle.territory.specs.Territories.{SegmentView, words_in, counts_as_held, is_cell}
 use Rattle.territory.specs.Pools.{numbered, seen, used_words, is_held, is_cell_space, cells_in, entry, entries_in, entries_of, starts_of}
 use Rattle.territory.proofs.Entries.{AllSmall, find_out, find_none, find-append_out, small_tail}

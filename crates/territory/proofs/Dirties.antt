@@ -1,14 +1,13 @@
 -- The list of dirty segments, told of what contracts see.
-use Rattle.std.proofs.Common.{◌≡◌, ◌≢◌, ℕ, ◌+◌, ◌<◌, ◌≤◌, Bool, true, false, cond, List, [], ◌∷◌, length, get_or, map, Option, Some, None, Contains, refl, sym, ◌∙◌, ap, subst, arith, inl, inr}
+use Rattle.std.proofs.Common.{◌≡◌, ◌≢◌, ℕ, ◌<◌, ◌≤◌, true, false, cond, List, length, get_or, Contains, refl, sym, ap, subst, arith, inl, inr}
 use Rattle.std.proofs.lemmas.Bool.{cases_lt}
-use Rattle.std.specs.List.{slice_get}
-use Rattle.seg_chain.specs.Lists.{chain_of, link_count, times, times_all, EachOnce}
+use Rattle.seg_chain.specs.Lists.{chain_of, link_count, times, EachOnce}
 use Rattle.seg_chain.proofs.Counts.{times-le-all}
 use Rattle.seg_chain.proofs.Laws.{contains_of, times_of, is_index}
 use Rattle.segment.specs.Segments.{Segment, IsSound, is_free}
 use Rattle.segment.specs.declared.segment.Role.TheVariants.{Free, Current, From}
 use Rattle.territory.specs.declared.territory.Targets.{Targets}
-use Rattle.territory.specs.Territories.{SegmentView, TerritoryView, segment_at, HasMark, AreDirtyOnes}
+use Rattle.territory.specs.Territories.{TerritoryView, HasMark, AreDirtyOnes}
 use Rattle.territory.specs.Pools.{PoolView, IsSettled, numbered, seen, shows_dirty, territory_view}
 use Rattle.territory.proofs.Numbers.{seen_at}
 

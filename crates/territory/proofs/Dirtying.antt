@@ -1,14 +1,14 @@
 -- The chain of dirty segments, after each change.
-use Rattle.std.proofs.Common.{◌≡◌, ◌≢◌, ℕ, ◌+◌, ◌<◌, ◌≤◌, Bool, true, false, cond, List, [], ◌∷◌, ◌++◌, length, set, refl, sym, ◌∙◌, ap, subst, arith, inl, inr}
-use Rattle.std.proofs.lemmas.Bool.{cases_eq, cases_lt}
-use Rattle.std.proofs.lemmas.List.{length-set, length_push, get_or_past}
-use Rattle.seg_chain.specs.Lists.{chain_of, link_count, times, times_all, without, moved, EachOnce}
-use Rattle.seg_chain.proofs.Counts.{times-append, times_two}
-use Rattle.seg_chain.proofs.Laws.{times-without, length-moved, chain_of-moved_from, chain_of-moved_to, has_chain, times_of}
+use Rattle.std.proofs.Common.{◌≡◌, ℕ, ◌<◌, ◌≤◌, true, false, List, [], ◌∷◌, ◌++◌, length, set, sym, ◌∙◌, ap, subst, arith, inl, inr}
+use Rattle.std.proofs.lemmas.Bool.{cases_eq}
+use Rattle.std.proofs.lemmas.List.{length-set, length_push}
+use Rattle.seg_chain.specs.Lists.{chain_of, link_count, times, moved, EachOnce}
+use Rattle.seg_chain.proofs.Counts.{times-append}
+use Rattle.seg_chain.proofs.Laws.{length-moved, chain_of-moved_to, has_chain, times_of}
 use Rattle.segment.specs.Segments.{vacant, Segment}
 use Rattle.territory.specs.Pools.{numbered, IsIn, AreDirty, shows_dirty}
-use Rattle.territory.proofs.Numbers.{numbered-set_same, numbered-set_other, numbered_push, numbered_past, each_same}
-use Rattle.territory.proofs.Listing.{last_in, is_last, chain_within, linked_below, times_without_self}
+use Rattle.territory.proofs.Numbers.{numbered-set_same, numbered-set_other, numbered_push, each_same}
+use Rattle.territory.proofs.Listing.{last_in, is_last}
 
 -- the chain stays where a segment shows the same
 pub dirty_same : (segments : List Segment) (dirty : List (List ℕ)) (n : ℕ) (p : Segment) → AreDirty segments dirty → shows_dirty p ≡ shows_dirty (numbered segments n) → AreDirty (set segments n p) dirty

@@ -1,22 +1,21 @@
 -- A pool gets a number more.
-use Rattle.std.proofs.Common.{◌≡◌, ◌≢◌, ℕ, zero, suc, ◌+◌, ◌*◌, ◌<◌, ◌≤◌, Bool, true, false, cond, nat_lt, List, [], ◌∷◌, ◌++◌, length, get_or, replicate, Option, Some, None, is_some, Contains, refl, sym, ◌∙◌, ap, subst, arith, inl, inr, ◌⊎◌}
-use Rattle.std.proofs.lemmas.List.{length_push, length-replicate, get_or_past}
-use Rattle.std.proofs.lemmas.Bool.{cases_eq, cases_lt}
+use Rattle.std.proofs.Common.{◌≡◌, ℕ, zero, suc, ◌+◌, ◌<◌, ◌≤◌, true, false, cond, nat_lt, List, [], ◌∷◌, ◌++◌, length, replicate, Option, Some, None, is_some, refl, sym, ◌∙◌, ap, subst, arith, inl, inr}
+use Rattle.std.proofs.lemmas.List.{length_push, length-replicate}
 use Rattle.std.proofs.lemmas.Bool.Decides.{nat_tests}
-use Rattle.std.proofs.lemmas.Option.{slice_get_within, get_or_from_slice_get, same_Some, slice_get-get_or, slice_get_past}
+use Rattle.std.proofs.lemmas.Option.{slice_get_within, get_or_from_slice_get, same_Some}
 use Rattle.std.proofs.lemmas.List.Sums.{sum_by-cons}
 use Rattle.std.specs.List.{slice_get, sum_by, count_by}
-use Rattle.gc_words.specs.declared.address.TheConstants.{SEGMENTS, OFFSETS}
+use Rattle.gc_words.specs.declared.address.TheConstants.{SEGMENTS}
 use Rattle.seg_chain.specs.Lists.{chain_of, link_count, times, with_last, EachOnce}
 use Rattle.seg_chain.proofs.Counts.{times_from_index}
 use Rattle.seg_chain.proofs.Calls.{link_count-replicate}
 use Rattle.seg_chain.proofs.Laws.{chain_of-replicate, chain_of-with_last}
-use Rattle.segment.specs.Segments.{Segment, Start, IsSound, spot, vacant}
+use Rattle.segment.specs.Segments.{Segment, IsSound, spot, vacant}
 use Rattle.segment.proofs.Collected.{IsSound-vacant, spot_vacant}
 use Rattle.territory.specs.declared.counts.SegmentCounts.{SegmentCounts}
-use Rattle.territory.specs.Territories.{IsNextNumber, with_number}
-use Rattle.territory.specs.Pools.{PoolView, numbered, list_of, IsIn, IsOpenFor, AreListed, AreOpen, AreDirty, AreCounted, IsSettled, used_words, is_held, cells_in, shows_dirty}
-use Rattle.territory.specs.Changes.{IsSame, IsTaken}
+use Rattle.territory.specs.Territories.{with_number}
+use Rattle.territory.specs.Pools.{PoolView, numbered, list_of, IsIn, AreListed, IsSettled, used_words, is_held, cells_in, shows_dirty}
+use Rattle.territory.specs.Changes.{IsTaken}
 use Rattle.territory.proofs.Numbers.{numbered_push, numbered_past}
 use Rattle.territory.proofs.Listing.{listed_push, listed_more, linked_below, is_last}
 use Rattle.territory.proofs.Dirtying.{dirty_push, dirty_linked}
@@ -51,18 +50,18 @@ settled_links p now dirty e done two links once same =
 -- the next number is free
 pub settled_more : (p now : PoolView) (lists : List (List ℕ)) (n : ℕ) → p ≡ now → IsSettled now → n ≡ link_count p.lists → link_count now.lists < length now.segments → lists ≡ with_last p.lists 0 n → link_count lists ≡ link_count p.lists + 1 → EachOnce lists → IsSettled (record p { lists = lists })
 settled_more p now lists n eq done i b' e k once =
-  let t : IsSettled p = subst IsSettled (sym eq) done in
-  let b : n < length p.segments = omega (arith, ap (λ (v : PoolView). length v.segments) eq, ap (λ (v : PoolView). link_count v.lists) eq) in
-  record {
-  count = t.count;
-  sound = t.sound;
-  generations = t.generations;
-  lengths = t.lengths;
-  listed = subst (AreListed p.segments) (sym e) (listed_more p.segments p.lists n t.listed i b (ap link_count (sym e) ∙ k) (subst EachOnce e once));
-  open_areas = t.open_areas;
-  dirty = t.dirty;
-  counted = t.counted;
-}
+    let t : IsSettled p = subst IsSettled (sym eq) done in
+    let b : n < length p.segments = omega (arith, ap (λ (v : PoolView). length v.segments) eq, ap (λ (v : PoolView). link_count v.lists) eq) in
+    record {
+      count = t.count;
+      sound = t.sound;
+      generations = t.generations;
+      lengths = t.lengths;
+      listed = subst (AreListed p.segments) (sym e) (listed_more p.segments p.lists n t.listed i b (ap link_count (sym e) ∙ k) (subst EachOnce e once));
+      open_areas = t.open_areas;
+      dirty = t.dirty;
+      counted = t.counted;
+    }
 
 -- what stands at some place of a list stands in the list
 pub in_at : (xs : List ℕ) (k n : ℕ) → slice_get xs k ≡ Some n → 0 < times n xs

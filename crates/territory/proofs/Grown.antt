@@ -1,18 +1,17 @@
 -- A pool makes an object.
-use Rattle.std.proofs.Common.{◌≡◌, ◌≢◌, ℕ, zero, suc, ◌+◌, ◌*◌, ◌/◌, ◌<◌, ◌≤◌, Bool, true, false, cond, not, eqb, ◌&&◌, List, [], ◌∷◌, length, get_or, set, replicate, Option, Some, None, refl, sym, ◌∙◌, ap, subst, arith, inl, inr}
+use Rattle.std.proofs.Common.{◌≡◌, ℕ, ◌+◌, ◌*◌, ◌/◌, ◌<◌, ◌≤◌, Bool, true, false, cond, not, eqb, ◌&&◌, List, length, get_or, set, replicate, Some, refl, sym, ◌∙◌, ap, subst, arith, inl, inr}
 use Rattle.std.proofs.lemmas.List.{length-set, get_or_read}
 use Rattle.std.proofs.lemmas.List.Sums.{count_by-le-length}
 use Rattle.std.proofs.lemmas.Bool.{cases_eq}
 use Rattle.std.proofs.lemmas.Option.{same_Some}
 use Rattle.std.proofs.lemmas.Bool.Decides.{nat_tests}
-use Rattle.std.specs.List.{sum_by, count_by}
+use Rattle.std.specs.List.{count_by}
 use Rattle.gc_words.specs.declared.address.TheConstants.{SEGMENTS, OFFSETS}
 use Rattle.segment.specs.Layout.{size_of, skip_of, kind_of, length_of, count_of, HasLength}
 use Rattle.segment.specs.Segments.{Segment, Start, IsSound, spot, HasRoom, is_free, grown, vacant}
 use Rattle.segment.proofs.Changes.{IsSound-grown}
 use Rattle.segment.proofs.Spots.{spot_grown, spot_grown_other}
-use Rattle.territory.specs.declared.counts.SegmentCounts.{SegmentCounts}
-use Rattle.territory.specs.Pools.{PoolView, numbered, IsSettled, used_words, is_held, is_cell_space, cells_in}
+use Rattle.territory.specs.Pools.{PoolView, numbered, IsSettled, is_cell_space, cells_in}
 use Rattle.territory.proofs.Numbers.{each_set, spot_set, sum_by-set}
 use Rattle.territory.proofs.Listing.{listed_same}
 use Rattle.territory.proofs.Dirtying.{dirty_same}

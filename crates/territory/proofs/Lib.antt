@@ -18,3 +18,7 @@ pub mod Cells
 pub mod Dirties
 pub mod Nexts
 pub mod Showing
+pub mod Asides
+pub mod Beginning
+pub mod Begun
+pub mod BegunTerritory

@@ -1,15 +1,15 @@
 -- The lists of numbers, after each change.
-use Rattle.std.proofs.Common.{◌≡◌, ◌≢◌, ℕ, zero, suc, ◌+◌, ◌<◌, ◌≤◌, Bool, true, false, cond, eqb, List, [], ◌∷◌, ◌++◌, length, set, refl, sym, ◌∙◌, ap, subst, arith, inl, inr, ◌⊎◌}
+use Rattle.std.proofs.Common.{◌≡◌, ◌≢◌, ℕ, ◌+◌, ◌<◌, true, false, cond, eqb, List, [], ◌∷◌, ◌++◌, length, set, refl, sym, ◌∙◌, ap, subst, arith, inl, inr, ◌⊎◌}
 use Rattle.std.proofs.lemmas.Bool.{cases_eq, cases_lt}
 use Rattle.std.proofs.lemmas.Bool.Decides.{nat_tests}
 use Rattle.std.proofs.lemmas.List.{length-set, length_push, get_or_past}
-use Rattle.seg_chain.specs.Lists.{chain_of, link_count, times, times_all, without, with_last, moved, spliced, EachOnce}
-use Rattle.seg_chain.proofs.Counts.{times-append, times-le-all, times_two}
+use Rattle.seg_chain.specs.Lists.{chain_of, link_count, times, without, with_last, moved, EachOnce}
+use Rattle.seg_chain.proofs.Counts.{times-append}
 use Rattle.seg_chain.proofs.Laws.{times-without, length-moved, length-with_last, chain_of-moved_from, chain_of-moved_to, chain_of-moved_other, chain_of-with_last, chain_of-with_last_other, has_chain, times_of, contains_of, is_index}
 use Rattle.segment.specs.declared.segment.Role.{Role}
 use Rattle.segment.specs.declared.segment.Role.TheVariants.{Free, Current, From}
 use Rattle.segment.specs.Segments.{vacant, Segment}
-use Rattle.territory.specs.Pools.{numbered, list_for, list_of, IsIn, AreListed, AreDirty, shows_dirty}
+use Rattle.territory.specs.Pools.{numbered, list_for, list_of, IsIn, AreListed}
 use Rattle.territory.proofs.Numbers.{numbered-set_same, numbered-set_other, numbered_push, each_same}
 
 role_of : (r : Role) (g : ℕ) → list_for r g ≡ 0 → r ≡ Free

@@ -1,13 +1,12 @@
 -- What comes after a number in a list where it stands once.
-use Rattle.std.proofs.Common.{◌≡◌, ◌≢◌, ℕ, zero, suc, ◌+◌, ◌*◌, ◌<◌, ◌≤◌, Bool, true, false, cond, eqb, List, [], ◌∷◌, ◌++◌, length, get_or, take, drop, Option, Some, None, is_some, IsSome, Contains, refl, sym, ◌∙◌, ap, subst, arith, inl, inr, ◌⊎◌, append_assoc}
+use Rattle.std.proofs.Common.{◌≡◌, ℕ, zero, suc, ◌+◌, ◌<◌, ◌≤◌, true, false, List, [], ◌∷◌, ◌++◌, length, get_or, Option, Some, None, is_some, Contains, refl, sym, ◌∙◌, ap, subst, arith, inl, inr, ◌⊎◌}
 use Rattle.std.proofs.lemmas.Bool.{cases_lt}
 use Rattle.std.proofs.lemmas.Bool.Decides.{nat_tests}
-use Rattle.std.proofs.lemmas.Option.{slice_get_past, same_Some, slice_get_read, slice_get_within}
-use Rattle.std.proofs.lemmas.List.Concat.{flat_map-append}
-use Rattle.std.specs.List.{slice_get, flat_map}
+use Rattle.std.proofs.lemmas.Option.{same_Some, slice_get_read, slice_get_within}
+use Rattle.std.specs.List.{slice_get}
 use Rattle.seg_chain.specs.Lists.{chain_of, link_count, times, times_all, EachOnce, NextIs}
-use Rattle.seg_chain.proofs.Counts.{times-append, times_two, times-le-all}
-use Rattle.seg_chain.proofs.Laws.{contains_of, times_of}
+use Rattle.seg_chain.proofs.Counts.{times-append, times_two}
+use Rattle.seg_chain.proofs.Laws.{contains_of}
 use Rattle.segment.specs.declared.segment.Role.{Role}
 use Rattle.segment.specs.declared.segment.Role.TheVariants.{Free, Current, From}
 use Rattle.segment.specs.Segments.{Segment, is_free, vacant}

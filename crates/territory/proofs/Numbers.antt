@@ -1,12 +1,11 @@
 -- One segment of the list of segments changed, or a vacant one was added.
-use Rattle.std.proofs.Common.{◌≡◌, ◌≢◌, ℕ, zero, suc, ◌+◌, ◌*◌, ◌<◌, ◌≤◌, Bool, true, false, cond, List, [], ◌∷◌, ◌++◌, length, get_or, set, map, Option, Some, None, refl, sym, ◌∙◌, ap, subst, arith, inl, inr, get_or-set_same, get_or-set_other}
-use Rattle.std.proofs.lemmas.List.{get_or_past, get_or_append_left, get_or_push, length_push, length-set, length-map, get_or-map, set_past}
-use Rattle.std.proofs.lemmas.List.Sums.{sum_by-cons, sum_by_push}
+use Rattle.std.proofs.Common.{◌≡◌, ◌≢◌, ℕ, zero, suc, ◌+◌, ◌<◌, ◌≤◌, List, [], ◌∷◌, ◌++◌, length, get_or, set, map, Some, None, sym, ◌∙◌, ap, subst, arith, inl, inr, get_or-set_same, get_or-set_other}
+use Rattle.std.proofs.lemmas.List.{get_or_past, get_or_append_left, get_or_push, length_push, length-map, get_or-map, set_past}
+use Rattle.std.proofs.lemmas.List.Sums.{sum_by-cons}
 use Rattle.std.proofs.lemmas.Bool.{cases_eq, cases_lt}
 use Rattle.std.specs.List.{sum_by}
 use Rattle.segment.specs.Segments.{vacant, Segment, Start, spot}
 use Rattle.segment.specs.Layout.{HasLength}
-use Rattle.territory.specs.Territories.{SegmentView}
 use Rattle.territory.specs.Pools.{numbered, seen}
 
 pub numbered-set_same : (segments : List Segment) (n : ℕ) (p : Segment) → n < length segments → numbered (set segments n p) n ≡ p

@@ -1,20 +1,17 @@
 -- A pool opens a segment at a free number.
-use Rattle.std.proofs.Common.{◌≡◌, ◌≢◌, ℕ, zero, suc, ◌+◌, ◌*◌, ◌<◌, ◌≤◌, Bool, true, false, cond, not, eqb, List, [], ◌∷◌, length, get_or, set, replicate, Option, Some, None, Contains, refl, sym, ◌∙◌, ap, subst, arith, inl, inr}
-use Rattle.std.proofs.lemmas.List.{length-set, length-replicate, get_or-replicate}
+use Rattle.std.proofs.Common.{◌≡◌, ◌≢◌, ℕ, zero, suc, ◌+◌, ◌*◌, ◌<◌, ◌≤◌, true, false, cond, not, eqb, List, length, set, replicate, Some, None, Contains, refl, sym, ◌∙◌, ap, subst, arith}
+use Rattle.std.proofs.lemmas.List.{length-set, length-replicate}
 use Rattle.std.proofs.lemmas.List.Sums.{sum_by-cons}
-use Rattle.std.specs.List.{sum_by, count_by}
+use Rattle.std.specs.List.{count_by}
 use Rattle.gc_words.specs.declared.address.TheConstants.{SEGMENTS, OFFSETS}
-use Rattle.cards.specs.Cards.{card_count}
 use Rattle.seg_chain.specs.Lists.{chain_of, link_count, moved, EachOnce}
 use Rattle.seg_chain.proofs.Laws.{contains_of}
 use Rattle.segment.specs.declared.space.Space.{Space}
-use Rattle.segment.specs.declared.segment.Role.{Role}
-use Rattle.segment.specs.declared.segment.Role.TheVariants.{Free, Current, From}
+use Rattle.segment.specs.declared.segment.Role.TheVariants.{Free, Current}
 use Rattle.segment.specs.Segments.{Segment, IsSound, is_free, opened}
 use Rattle.segment.proofs.Spots.{spot_opened}
 use Rattle.segment.proofs.Collected.{IsSound-opened}
-use Rattle.territory.specs.declared.counts.SegmentCounts.{SegmentCounts}
-use Rattle.territory.specs.Pools.{PoolView, numbered, list_of, IsIn, IsOpenFor, AreListed, IsSettled, used_words, is_held, is_cell_space, cells_in, shows_dirty}
+use Rattle.territory.specs.Pools.{PoolView, numbered, list_of, IsIn, AreListed, IsSettled, used_words, is_held, is_cell_space, cells_in, shows_dirty}
 use Rattle.territory.specs.Changes.{IsTaken}
 use Rattle.territory.proofs.Numbers.{each_set, spot_set}
 use Rattle.territory.proofs.Listing.{listed_moved, free_of}

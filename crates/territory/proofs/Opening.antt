@@ -1,7 +1,7 @@
 -- The open areas, after each change.
-use Rattle.std.proofs.Common.{◌≡◌, ◌≢◌, ℕ, ◌+◌, ◌*◌, ◌/◌, ◌%◌, ◌<◌, ◌≤◌, Bool, true, false, cond, List, [], ◌∷◌, ◌++◌, length, get_or, set, Option, Some, None, refl, sym, ◌∙◌, ap, subst, arith, inl, inr, get_or-set_same, get_or-set_other}
+use Rattle.std.proofs.Common.{◌≡◌, ◌≢◌, ℕ, ◌<◌, List, [], ◌∷◌, ◌++◌, length, get_or, set, Option, Some, None, sym, ◌∙◌, ap, subst, arith, inl, inr, get_or-set_same, get_or-set_other}
 use Rattle.std.proofs.lemmas.Bool.{cases_eq, cases_lt}
-use Rattle.std.proofs.lemmas.List.{length-set, length_push, get_or_past}
+use Rattle.std.proofs.lemmas.List.{length-set}
 use Rattle.std.proofs.lemmas.Option.{same_Some, slice_get_past, slice_get-get_or}
 use Rattle.std.specs.List.{slice_get}
 use Rattle.segment.specs.declared.space.Space.{Space}
@@ -10,7 +10,7 @@ use Rattle.segment.specs.Segments.{vacant, Segment}
 use Rattle.territory.specs.Codes.{space_by_index, space_by_index-space_index}
 use Rattle.territory.specs.Territories.{area_of}
 use Rattle.territory.specs.Pools.{numbered, IsOpenFor, AreOpen}
-use Rattle.territory.proofs.Numbers.{numbered-set_same, numbered-set_other, numbered_push, numbered_past}
+use Rattle.territory.proofs.Numbers.{numbered-set_same, numbered-set_other, numbered_push}
 
 -- the areas stay where the changed segment is as good for each area as it was
 pub open_changed : (segments : List Segment) (areas : List (Option ℕ)) (n : ℕ) (p : Segment) → AreOpen segments areas → n < length segments → ((k : ℕ) → IsOpenFor (numbered segments n) k → IsOpenFor p k) → AreOpen (set segments n p) areas

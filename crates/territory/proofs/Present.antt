@@ -1,10 +1,10 @@
 -- Where a start stands: its segment, and its spot there.
-use Rattle.std.proofs.Common.{◌≡◌, ◌≢◌, ℕ, zero, suc, ◌+◌, ◌-◌, ◌*◌, ◌/◌, ◌%◌, ◌<◌, ◌≤◌, ◌==◌, ◌&&◌, Bool, true, false, cond, eqb, nat_le, List, [], ◌∷◌, length, get_or, Option, Some, None, IsSome, refl, sym, ◌∙◌, ap, subst, arith, inl, inr}
-use Rattle.std.proofs.lemmas.Bool.{cases_eq, cases_lt}
+use Rattle.std.proofs.Common.{◌≡◌, ℕ, ◌+◌, ◌-◌, ◌*◌, ◌/◌, ◌%◌, ◌<◌, ◌≤◌, ◌&&◌, true, false, cond, eqb, nat_le, List, length, Some, None, IsSome, refl, sym, ◌∙◌, ap, subst, arith, inl, inr}
+use Rattle.std.proofs.lemmas.Bool.{cases_lt}
 use Rattle.std.proofs.lemmas.Bool.Decides.{nat_tests}
 use Rattle.std.specs.FinMap.{get}
-use Rattle.gc_words.specs.declared.address.TheConstants.{SEGMENTS, OFFSETS, THREADS}
-use Rattle.gc_words.specs.Layout.{thread_of, segment_of, offset_of, IsAddress}
+use Rattle.gc_words.specs.declared.address.TheConstants.{SEGMENTS, OFFSETS}
+use Rattle.gc_words.specs.Layout.{thread_of, segment_of, offset_of}
 use Rattle.segment.specs.Segments.{vacant, Segment, Start, IsStart, object_at, spot}
 use Rattle.segment.proofs.Spots.{spot_is, spot_start}
 use Rattle.territory.specs.Pools.{numbered, start_in, starts_of, PoolView, IsSettled}

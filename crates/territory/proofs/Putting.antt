@@ -1,5 +1,5 @@
 -- A pool puts a word into a start, and marks its card.
-use Rattle.std.proofs.Common.{◌≡◌, ◌≢◌, ℕ, zero, suc, ◌+◌, ◌*◌, ◌/◌, ◌<◌, ◌≤◌, Bool, true, false, cond, not, eqb, nat_lt, ◌&&◌, ◌||◌, List, [], ◌∷◌, ◌++◌, length, get_or, set, min, Option, Some, None, Contains, IsTrue, refl, sym, ◌∙◌, ap, subst, arith, inl, inr}
+use Rattle.std.proofs.Common.{◌≡◌, ℕ, ◌+◌, ◌<◌, Bool, true, false, cond, eqb, ◌&&◌, ◌||◌, List, [], ◌∷◌, ◌++◌, length, get_or, set, Some, Contains, IsTrue, refl, sym, ◌∙◌, ap, subst, arith, inl, inr}
 use Rattle.std.proofs.lemmas.List.{length-set, get_or_read, set-get_or}
 use Rattle.std.proofs.lemmas.Bool.{cases_eq, cases_lt}
 use Rattle.std.proofs.lemmas.Option.{same_Some}
@@ -9,7 +9,6 @@ use Rattle.cards.specs.Cards.{card_of}
 use Rattle.seg_chain.specs.Lists.{chain_of, link_count, times, moved, EachOnce}
 use Rattle.seg_chain.proofs.Laws.{contains_of, chain_of-moved_to}
 use Rattle.segment.specs.declared.segment.Role.{Role}
-use Rattle.segment.specs.declared.segment.Role.TheVariants.{Free, Current, From}
 use Rattle.segment.specs.Layout.{HasLength, count_of, skip_of}
 use Rattle.segment.specs.Segments.{Segment, Start, IsSound, IsStart, is_free, first_at, object_at, words_at, spot, place_in, put_in, marked_at, vacant}
 use Rattle.segment.proofs.Changes.{IsSound-put}
@@ -17,7 +16,7 @@ use Rattle.segment.proofs.Collected.{IsSound-marked}
 use Rattle.segment.proofs.Spots.{in_words, spot_put, spot_put_other, spot_start}
 use Rattle.segment.proofs.Calls.{card_seen}
 use Rattle.territory.specs.Territories.{needs_mark, with_dirty}
-use Rattle.territory.specs.Pools.{PoolView, numbered, IsIn, IsSettled, AreDirty, is_from_role, shows_dirty, noted, dirty_after}
+use Rattle.territory.specs.Pools.{PoolView, numbered, IsSettled, AreDirty, is_from_role, shows_dirty, noted, dirty_after}
 use Rattle.territory.proofs.Numbers.{numbered_past, each_set, spot_set}
 use Rattle.territory.proofs.Listing.{listed_same}
 use Rattle.territory.proofs.Dirtying.{dirty_same, dirty_marked, clean_in}
@@ -173,9 +172,10 @@ need p now n k index q r b role g refers h read er eg e =
 pub not_noted : (p now : PoolView) (n k index refers : ℕ) → p ≡ now → n < length p.segments → needs_mark (is_from_role (numbered p.segments n).role) (numbered p.segments n).generation refers ≡ false
     → (now.segments ≡ set now.segments n (noted (numbered now.segments n) k index refers)) × (chain_of now.dirty 1 ≡ dirty_after (numbered now.segments n) (chain_of now.dirty 1) n refers)
 not_noted p now n k index refers e b unmarked =
-    let no' : needs_mark (is_from_role (numbered now.segments n).role) (numbered now.segments n).generation refers ≡ false = subst (λ (v : PoolView). needs_mark (is_from_role (numbered v.segments n).role) (numbered v.segments n).generation refers ≡ false) e unmarked in
-    (sym (ap (λ v. set now.segments n (cond v (marked_at (numbered now.segments n) (place_in (numbered now.segments n) k index) refers) (numbered now.segments n))) no' ∙ set-get_or now.segments n vacant),
-    sym (ap (λ v. cond v (with_dirty (chain_of now.dirty 1) n) (chain_of now.dirty 1)) no'))
+    let no' : needs_mark (is_from_role (numbered now.segments n).role) (numbered now.segments n).generation refers ≡ false = subst (λ (v : PoolView). needs_mark (is_from_role (numbered v.segments n).role) (numbered v.segments n).generation refers ≡ false) e unmarked in (
+      sym (ap (λ v. set now.segments n (cond v (marked_at (numbered now.segments n) (place_in (numbered now.segments n) k index) refers) (numbered now.segments n))) no' ∙ set-get_or now.segments n vacant),
+      sym (ap (λ v. cond v (with_dirty (chain_of now.dirty 1) n) (chain_of now.dirty 1)) no'),
+    )
 
 pub was_noted : (p now : PoolView) (n k index refers : ℕ) (q q' : Segment) → p ≡ now → IsHere p now n k index q → needs_mark (is_from_role (numbered p.segments n).role) (numbered p.segments n).generation refers ≡ true → q' ≡ marked_at q (place_in q k index) refers
     → set p.segments n q' ≡ set now.segments n (noted (numbered now.segments n) k index refers)

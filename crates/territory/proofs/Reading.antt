@@ -1,15 +1,15 @@
 -- What a territory tells of a start. `q` is the segment that was read, and k the number of the start in it.
-use Rattle.std.proofs.Common.{◌≡◌, ◌≢◌, ℕ, ◌+◌, ◌*◌, ◌/◌, ◌%◌, ◌<◌, ◌≤◌, Bool, true, false, List, [], length, get_or, Option, Some, None, IsSome, IfSome, IsTrue, refl, sym, ◌∙◌, ap, subst, arith}
+use Rattle.std.proofs.Common.{◌≡◌, ◌≢◌, ℕ, ◌+◌, ◌*◌, ◌/◌, ◌%◌, ◌<◌, ◌≤◌, length, get_or, Option, Some, None, IsSome, IfSome, refl, sym, ◌∙◌, ap, subst, arith}
 use Rattle.std.specs.FinMap.{get}
 use Rattle.gc_words.specs.declared.address.TheConstants.{SEGMENTS, THREADS}
 use Rattle.gc_words.specs.Layout.{thread_of, segment_of, offset_of}
-use Rattle.segment.specs.Layout.{kind_of, length_of, count_of, words_after, HasLength}
-use Rattle.segment.specs.Segments.{Segment, Start, IsSound, IsStart, object_at, first_at, spot}
+use Rattle.segment.specs.Layout.{count_of}
+use Rattle.segment.specs.Segments.{Segment, Start, IsStart, object_at}
 use Rattle.segment.proofs.Spots.{spot_start, words_length}
 use Rattle.segment.proofs.Sizes.{HasLength_le}
 use Rattle.territory.specs.declared.territory.Targets.{Targets}
 use Rattle.territory.specs.Territories.{TerritoryView, IsShaped, HaveAddresses, words_of}
-use Rattle.territory.specs.Pools.{PoolView, IsSettled, numbered, starts_of, territory_view}
+use Rattle.territory.specs.Pools.{PoolView, IsSettled, numbered, territory_view}
 use Rattle.territory.proofs.Present.{IsPresent, present, born}
 
 pub record IsReached (thread : ℕ) (pool : PoolView) (now : TerritoryView) (a : ℕ) : Type 0 where

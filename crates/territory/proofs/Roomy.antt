@@ -1,20 +1,18 @@
 -- A pool finds room for an object.
-use Rattle.std.proofs.Common.{◌≡◌, ◌≢◌, ℕ, zero, suc, ◌+◌, ◌*◌, ◌/◌, ◌%◌, ◌<◌, ◌≤◌, Bool, true, false, cond, nat_lt, is_some, List, [], ◌∷◌, length, get_or, set, replicate, Option, Some, None, refl, sym, ◌∙◌, ap, subst, arith, inl, inr, ◌⊎◌}
+use Rattle.std.proofs.Common.{◌≡◌, ℕ, ◌+◌, ◌*◌, ◌<◌, ◌≤◌, true, false, cond, is_some, List, length, get_or, set, Option, Some, None, refl, sym, ◌∙◌, ap, subst, arith, inl, inr}
 use Rattle.std.proofs.lemmas.Bool.{cases_lt}
 use Rattle.std.proofs.lemmas.Bool.Decides.{nat_tests}
 use Rattle.std.proofs.lemmas.List.{length-replicate, get_or_read, set-get_or}
 use Rattle.std.proofs.lemmas.Option.{slice_get-get_or, get_or_from_slice_get}
-use Rattle.std.specs.List.{slice_get, count_by}
-use Rattle.gc_words.specs.declared.address.TheConstants.{SEGMENTS, OFFSETS}
-use Rattle.seg_chain.specs.Lists.{chain_of}
+use Rattle.std.specs.List.{slice_get}
 use Rattle.segment.specs.declared.space.Space.{Space}
-use Rattle.segment.specs.declared.segment.Role.TheVariants.{Free, Current, From}
+use Rattle.segment.specs.declared.segment.Role.TheVariants.{Free, Current}
 use Rattle.segment.specs.Layout.{space_index}
 use Rattle.segment.specs.Segments.{Segment, HasRoom, opened, vacant}
 use Rattle.territory.specs.declared.counts.SegmentCounts.{SegmentCounts}
 use Rattle.territory.specs.Territories.{area_of, is_large, words_for, areas_for}
 use Rattle.territory.specs.Pools.{PoolView, numbered, IsOpenFor, IsSettled}
-use Rattle.territory.specs.Changes.{IsOpened, WasOpen, IsOpenRoom, IsRoom}
+use Rattle.territory.specs.Changes.{IsOpened, IsOpenRoom, IsRoom}
 use Rattle.territory.proofs.Numbers.{numbered_past}
 use Rattle.territory.proofs.Opening.{open_set, its_space, its_generation}
 use Rattle.territory.proofs.Counting.{counted_open}

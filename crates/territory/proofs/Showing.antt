@@ -1,23 +1,21 @@
 -- The starts of a generation as a list.
-use Rattle.std.proofs.Common.{◌≡◌, ◌≢◌, ℕ, zero, suc, ◌+◌, ◌-◌, ◌*◌, ◌/◌, ◌%◌, ◌<◌, ◌≤◌, Bool, true, false, cond, eqb, List, [], ◌∷◌, ◌++◌, length, get_or, map, take, drop, Option, Some, None, is_some, IsSome, IfSome, IfNone, Contains, refl, sym, ◌∙◌, ap, subst, arith, inl, inr, ◌⊎◌, append_assoc}
+use Rattle.std.proofs.Common.{◌≡◌, ◌≢◌, ℕ, zero, suc, ◌+◌, ◌-◌, ◌*◌, ◌/◌, ◌<◌, ◌≤◌, Bool, true, false, cond, eqb, List, [], ◌∷◌, ◌++◌, length, map, drop, Option, Some, None, is_some, IsSome, IfSome, Contains, refl, sym, ◌∙◌, ap, subst, arith, inl, inr, ◌⊎◌, append_assoc}
 use Rattle.std.proofs.lemmas.Bool.{cases_eq, cases_lt}
 use Rattle.std.proofs.lemmas.Bool.Decides.{nat_tests}
-use Rattle.std.proofs.lemmas.List.{get_or_past, length-map}
-use Rattle.std.proofs.lemmas.List.Concat.{flat_map-append}
-use Rattle.std.proofs.lemmas.Option.{same_Some, slice_get_within, slice_get_read}
+use Rattle.std.proofs.lemmas.Option.{same_Some, slice_get_read}
 use Rattle.std.specs.List.{slice_get, filter, flat_map, range_with_len}
 use Rattle.std.specs.FinMap.{get}
-use Rattle.gc_words.specs.declared.address.TheConstants.{SEGMENTS, OFFSETS, THREADS}
-use Rattle.gc_words.specs.Layout.{address_of, thread_of, segment_of, offset_of}
-use Rattle.seg_chain.specs.Lists.{chain_of, link_count, times, times_all, EachOnce}
+use Rattle.gc_words.specs.declared.address.TheConstants.{SEGMENTS, OFFSETS}
+use Rattle.gc_words.specs.Layout.{address_of, segment_of, offset_of}
+use Rattle.seg_chain.specs.Lists.{chain_of, times}
 use Rattle.seg_chain.proofs.Counts.{times-append, here_in, later_in}
 use Rattle.seg_chain.proofs.Laws.{contains_of, times_of}
-use Rattle.segment.specs.Segments.{Segment, Start, IsSound, IsStart, is_free, start_at, object_at, spot, NoneWithin, NoneFrom}
+use Rattle.segment.specs.Segments.{Segment, Start, IsSound, IsStart, is_free, spot, NoneWithin, NoneFrom}
 use Rattle.segment.specs.declared.segment.Role.TheVariants.{Free, Current, From}
 use Rattle.segment.proofs.Spots.{spot_start, spot_is, start_in as born_in}
 use Rattle.territory.specs.declared.territory.Targets.{Targets}
 use Rattle.territory.specs.Territories.{TerritoryView, segment_at, words_in, numbers_of, starts_in, starts_of_generation, AreItsStarts, IsNext}
-use Rattle.territory.specs.Pools.{PoolView, IsSettled, AreUsed, numbered, seen, IsIn, list_of, list_for, starts_of, start_in, territory_view}
+use Rattle.territory.specs.Pools.{PoolView, IsSettled, AreUsed, numbered, seen, IsIn, list_of, list_for, starts_of, territory_view}
 use Rattle.segment.specs.declared.segment.Role.{Role}
 use Rattle.territory.proofs.Numbers.{seen_at, numbered_past}
 use Rattle.territory.proofs.Listing.{listed_at, in_use_linked, free_of}
@@ -26,7 +24,7 @@ use Rattle.territory.proofs.Entries.{get-starts}
 use Rattle.territory.proofs.Slots.{all_small, start_here}
 use Rattle.territory.proofs.Growing.{in_at}
 use Rattle.territory.proofs.Reading.{IsReached, reach, if_some}
-use Rattle.territory.proofs.Nexts.{next_at, once_of, get_left, get_right}
+use Rattle.territory.proofs.Nexts.{next_at, once_of, get_right}
 
 -- ---- the starts of a segment from one place on
 pub is_born : Segment → ℕ → Bool
@@ -58,9 +56,11 @@ unfolding starts_from
 from_some thread n p from zero j a b s none = absurd (omega arith)
 from_some thread n p from (suc count) j a b s none =
     elim (cases_eq from j) [
-      | inl e ↦ (starts_from thread n p (from + 1) count,
-          ap (λ b. cond b (address_of thread n (2 * from) ∷ starts_from thread n p (from + 1) count) (starts_from thread n p (from + 1) count)) (born_yes p from (subst (IsStart p) (sym e) s))
-          ∙ ap (λ v. address_of thread n (2 * v) ∷ starts_from thread n p (from + 1) count) e)
+      | inl e ↦ (
+        starts_from thread n p (from + 1) count,
+        ap (λ b. cond b (address_of thread n (2 * from) ∷ starts_from thread n p (from + 1) count) (starts_from thread n p (from + 1) count)) (born_yes p from (subst (IsStart p) (sym e) s))
+            ∙ ap (λ v. address_of thread n (2 * v) ∷ starts_from thread n p (from + 1) count) e,
+      )
       | inr ne ↦
           let r : (rest : List ℕ) × (starts_from thread n p (from + 1) count ≡ address_of thread n (2 * j) ∷ rest) = from_some thread n p (from + 1) count j (omega arith) (omega arith) s (λ i c d. none i (omega arith) d) in
           (r.0, ap (λ b. cond b (address_of thread n (2 * from) ∷ starts_from thread n p (from + 1) count) (starts_from thread n p (from + 1) count)) (born_no p from (none from (omega arith) (omega arith))) ∙ r.1)
@@ -73,9 +73,11 @@ from_split thread n p from zero k a b s = absurd (omega arith)
 from_split thread n p from (suc count) k a b s =
     elim (cases_eq from k) [
       | inl e ↦
-          let c : count ≡ from + suc count - (k + 1) = omega arith in
-          ([], ap (λ b. cond b (address_of thread n (2 * from) ∷ starts_from thread n p (from + 1) count) (starts_from thread n p (from + 1) count)) (born_yes p from (subst (IsStart p) (sym e) s))
-          ∙ (ap (λ v. address_of thread n (2 * v) ∷ starts_from thread n p (v + 1) count) e ∙ ap (λ v. address_of thread n (2 * k) ∷ starts_from thread n p (k + 1) v) c))
+          let c : count ≡ from + suc count - (k + 1) = omega arith in (
+            [],
+            ap (λ b. cond b (address_of thread n (2 * from) ∷ starts_from thread n p (from + 1) count) (starts_from thread n p (from + 1) count)) (born_yes p from (subst (IsStart p) (sym e) s))
+                ∙ (ap (λ v. address_of thread n (2 * v) ∷ starts_from thread n p (v + 1) count) e ∙ ap (λ v. address_of thread n (2 * k) ∷ starts_from thread n p (k + 1) v) c),
+          )
       | inr ne ↦
           let r : (us : List ℕ) × (starts_from thread n p (from + 1) count ≡ us ++ (address_of thread n (2 * k) ∷ starts_from thread n p (k + 1) (from + 1 + count - (k + 1)))) = from_split thread n p (from + 1) count k (omega arith) (omega arith) s in
           let c : from + 1 + count - (k + 1) ≡ from + suc count - (k + 1) = omega arith in
@@ -278,8 +280,11 @@ in_is_start t n a h = filter_passes (λ a. is_some (get t.starts a)) (map (λ k.
 pub all_once : (thread : ℕ) (p : PoolView) (targets : Targets) (g a : ℕ) → IsSettled p → g < 9 → times a (starts_of_generation (territory_view thread p targets) g) ≤ 1
 unfolding starts_of_generation
 all_once thread p targets g a s small =
-    omega (arith, times_flat (starts_in (territory_view thread p targets)) (numbers_of p.lists g) a (segment_of a) (λ n. in_once thread p targets n a s) (λ n ne. in_other thread p targets n a s ne),
-        once_of p.lists g (segment_of a) s.listed.each_once s.listed.chains small)
+    omega (
+      arith,
+      times_flat (starts_in (territory_view thread p targets)) (numbers_of p.lists g) a (segment_of a) (λ n. in_once thread p targets n a s) (λ n ne. in_other thread p targets n a s ne),
+      once_of p.lists g (segment_of a) s.listed.each_once s.listed.chains small,
+    )
 
 -- a number that stands in the lists of a generation has a segment of it
 list_generation : (r : Role) (g h : ℕ) → g < 9 → h < 9 → (list_for r h ≡ 1 + g) ⊎ (list_for r h ≡ 10 + g) → h ≡ g
@@ -331,7 +336,7 @@ its_starts thread p targets now g e s small =
           let cut : (us : List ℕ) × (starts_in t n ≡ us ++ (address_of thread n (2 * k) ∷ starts_from thread n (numbered p.segments n) (k + 1) (0 + places p n - (k + 1)))) = split_told thread p targets n k s at.starts in
           let a_is : address_of thread n (2 * k) ≡ a = address_is thread n (2 * k) ∙ sym at.address in
           let there : 0 < times a (starts_in t n) = subst (λ v. 0 < times a v) (sym cut.1) (subst (λ v. 0 < times a (cut.0 ++ (v ∷ starts_from thread n (numbered p.segments n) (k + 1) (0 + places p n - (k + 1))))) (sym a_is)
-              (omega (arith, times-append a cut.0 (a ∷ starts_from thread n (numbered p.segments n) (k + 1) (0 + places p n - (k + 1))), here_in a (starts_from thread n (numbered p.segments n) (k + 1) (0 + places p n - (k + 1)))))) in
+          (omega (arith, times-append a cut.0 (a ∷ starts_from thread n (numbered p.segments n) (k + 1) (0 + places p n - (k + 1))), here_in a (starts_from thread n (numbered p.segments n) (k + 1) (0 + places p n - (k + 1)))))) in
           contains_of a (flat_map (starts_in t) (numbers_of p.lists g)) (times_flat_ge (starts_in t) (numbers_of p.lists g) a n in_list there);
       once = λ a. all_once thread p targets g a s small;
     })
@@ -456,9 +461,11 @@ last_there : (thread : ℕ) (p : PoolView) (targets : Targets) (now : TerritoryV
     → NoneFrom (IsStart q) (k + 1) → (i : ℕ) × IsBehind now x.generation a n [] i
 last_there thread p targets now a n k x q e s has en ek is none =
     let h : (i : ℕ) × IsBehind now x.generation a (segment_of a) (starts_from thread (segment_of a) (numbered p.segments (segment_of a)) (offset_of a / 2 + 1) (0 + places p (segment_of a) - (offset_of a / 2 + 1))) i = behind thread p targets now a x e s has in
-    let none' : NoneFrom (IsStart (numbered p.segments (segment_of a))) (offset_of a / 2 + 1) = subst (λ v. NoneFrom (IsStart (numbered p.segments (segment_of a))) (v + 1)) ek (subst (λ v. NoneFrom (IsStart v) (k + 1)) (is ∙ ap (numbered p.segments) en) none) in
-    (h.0, subst (λ v. IsBehind now x.generation a v [] h.0) (sym en) (subst (λ v. IsBehind now x.generation a (segment_of a) v h.0)
-        (from_none thread (segment_of a) (numbered p.segments (segment_of a)) (offset_of a / 2 + 1) (0 + places p (segment_of a) - (offset_of a / 2 + 1)) none') h.1))
+    let none' : NoneFrom (IsStart (numbered p.segments (segment_of a))) (offset_of a / 2 + 1) = subst (λ v. NoneFrom (IsStart (numbered p.segments (segment_of a))) (v + 1)) ek (subst (λ v. NoneFrom (IsStart v) (k + 1)) (is ∙ ap (numbered p.segments) en) none) in (
+      h.0,
+      subst (λ v. IsBehind now x.generation a v [] h.0) (sym en) (subst (λ v. IsBehind now x.generation a (segment_of a) v h.0)
+          (from_none thread (segment_of a) (numbered p.segments (segment_of a)) (offset_of a / 2 + 1) (0 + places p (segment_of a) - (offset_of a / 2 + 1)) none') h.1),
+    )
 
 after_is : (now : TerritoryView) (g n i : ℕ) (o : Option ℕ) → slice_get (numbers_of now.lists g) i ≡ Some n → IsNext (numbers_of now.lists g) n o → slice_get (drop (i + 1) (numbers_of now.lists g)) 0 ≡ o
 after_is now g n i o at next = drop_get (numbers_of now.lists g) (i + 1) ∙ sym (next i at)

@@ -1,12 +1,12 @@
 -- Where one spot of one segment changed, one start changed.
-use Rattle.std.proofs.Common.{◌≡◌, ◌≢◌, ℕ, zero, suc, ◌+◌, ◌-◌, ◌*◌, ◌/◌, ◌%◌, ◌<◌, ◌≤◌, ◌==◌, ◌&&◌, Bool, true, false, cond, eqb, nat_le, List, [], ◌∷◌, length, get_or, Option, Some, None, refl, sym, ◌∙◌, ap, subst, arith, inl, inr}
-use Rattle.std.proofs.lemmas.Bool.{cases_eq, cases_lt}
+use Rattle.std.proofs.Common.{◌≡◌, ◌≢◌, ℕ, ◌+◌, ◌-◌, ◌*◌, ◌/◌, ◌%◌, ◌<◌, ◌≤◌, ◌&&◌, true, false, cond, eqb, nat_le, List, [], Some, None, refl, sym, ◌∙◌, ap, arith, inl, inr}
+use Rattle.std.proofs.lemmas.Bool.{cases_eq}
 use Rattle.std.proofs.lemmas.Bool.Decides.{nat_tests}
 use Rattle.std.specs.Ordering.{nat_cmp, eq_by_cmp}
 use Rattle.std.specs.FinMap.{FinMap, get, insert, empty}
-use Rattle.gc_words.specs.declared.address.TheConstants.{SEGMENTS, OFFSETS}
+use Rattle.gc_words.specs.declared.address.TheConstants.{OFFSETS}
 use Rattle.segment.specs.Segments.{Segment, Start, IsSound, spot}
-use Rattle.territory.specs.Pools.{numbered, start_in, starts_of, entries_of, IsSettled, PoolView}
+use Rattle.territory.specs.Pools.{numbered, start_in, starts_of, entries_of}
 use Rattle.territory.proofs.Entries.{AllSmall, get-starts, same_starts, get_inserted}
 
 pub all_small : (segments : List Segment) → ((n : ℕ) → IsSound (numbered segments n)) → AllSmall segments

@@ -1,11 +1,10 @@
 -- What `put` leaves.
-use Rattle.std.proofs.Common.{◌≡◌, ◌≢◌, ℕ, ◌+◌, ◌*◌, ◌/◌, ◌%◌, ◌<◌, ◌≤◌, Bool, true, false, cond, nat_lt, List, [], ◌∷◌, length, get_or, set, map, min, Option, Some, None, option_map, IsSome, refl, sym, ◌∙◌, ap, subst, arith, inl, inr}
+use Rattle.std.proofs.Common.{◌≡◌, ℕ, ◌+◌, ◌*◌, ◌/◌, ◌<◌, ◌≤◌, Bool, true, false, cond, List, length, get_or, set, map, min, Option, Some, None, option_map, refl, sym, ◌∙◌, ap, subst, arith, inl, inr}
 use Rattle.std.proofs.lemmas.Bool.{cases_eq, cases_lt}
 use Rattle.std.proofs.lemmas.Bool.Decides.{nat_tests}
 use Rattle.std.proofs.lemmas.List.{length-set, length-map, get_or-set_same, get_or-set_other, set-set, map-set, get_or_past, set_past}
 use Rattle.std.proofs.lemmas.Option.{same_Some}
-use Rattle.std.specs.Ordering.{nat_cmp}
-use Rattle.std.specs.FinMap.{FinMap, get, insert}
+use Rattle.std.specs.FinMap.{get, insert}
 use Rattle.gc_words.specs.declared.address.TheConstants.{SEGMENTS, OFFSETS}
 use Rattle.gc_words.specs.declared.value.Value.TheVariants as value
 use Rattle.gc_words.specs.Word.{value_of}
@@ -13,13 +12,13 @@ use Rattle.gc_words.specs.Layout.{segment_of, offset_of}
 use Rattle.cards.specs.Cards.{card_of}
 use Rattle.seg_chain.specs.Lists.{chain_of}
 use Rattle.segment.specs.Layout.{skip_of}
-use Rattle.segment.specs.Segments.{Segment, Start, IsSound, IsStart, is_free, object_at, words_at, spot, place_in, put_in, marked_at}
+use Rattle.segment.specs.Segments.{Segment, Start, IsStart, is_free, object_at, words_at, spot, place_in, put_in, marked_at}
 use Rattle.segment.proofs.Spots.{in_words, spot_put, spot_put_other, spot_start}
 use Rattle.territory.specs.declared.territory.Targets.{Targets}
-use Rattle.territory.specs.Territories.{SegmentView, TerritoryView, segment_at, put_start, words_of, place_of, byte_at, card_byte, has_values, Refers, AreCardsSound, needs_mark, with_card, marks, with_dirty, with_word, TellsLower}
+use Rattle.territory.specs.Territories.{SegmentView, TerritoryView, segment_at, put_start, words_of, place_of, byte_at, card_byte, Refers, AreCardsSound, needs_mark, with_card, marks, with_dirty, with_word, TellsLower}
 use Rattle.territory.specs.Pools.{PoolView, IsSettled, AreUsed, numbered, starts_of, seen, is_from_role, noted, dirty_after, territory_view}
 use Rattle.territory.proofs.Numbers.{numbered-set_same, numbered-set_other, seen_at}
-use Rattle.territory.proofs.Slots.{all_small, IsSlot, changed_map, get_here, get_other}
+use Rattle.territory.proofs.Slots.{all_small, changed_map, get_here, get_other}
 use Rattle.territory.proofs.Reading.{IsReached, reach, has_index}
 
 -- ---- cards
@@ -131,7 +130,7 @@ view_put p a k index word refers o =
     let card : card_of (place_in q k index) ≡ card_of (place_of (view_of p) a index) = ap (λ v. card_of (v + skip_of p.space + index)) (sym o) in
     view_noted b q (place_in q k index) refers
     ∙ (ap (λ v. cond b (let w : SegmentView = record { space = p.space; generation = p.generation; words = v; is_from = is_from_role p.role; was_held = p.was_held; cards = set p.cards (card_of (place_in q k index)) (min (get_or p.cards (card_of (place_in q k index)) 0) refers) } in w)
-        (let w : SegmentView = record { space = p.space; generation = p.generation; words = v; is_from = is_from_role p.role; was_held = p.was_held; cards = p.cards } in w)) words
+    (let w : SegmentView = record { space = p.space; generation = p.generation; words = v; is_from = is_from_role p.role; was_held = p.was_held; cards = p.cards } in w)) words
     ∙ ap (λ v. cond b (record (view_of p) { cards = set p.cards v (min (get_or p.cards v 0) refers) }) (view_of p)) card)
 
 -- ---- `put`, all together
@@ -166,9 +165,10 @@ pub put_starts : (thread : ℕ) (targets : Targets) (now : TerritoryView) (old :
     → IsStart (numbered old.segments n) k × (index < length (words_at (numbered old.segments n) k))
 put_starts thread targets now old a n k index e s i is ks =
     let r : IsReached thread old now a = reach thread old targets now a s e (has_index (get now.starts a) index i) in
-    let x_is : r.start ≡ object_at (numbered old.segments n) k = r.present.object ∙ (ap (λ v. object_at (numbered old.segments v) (offset_of a / 2)) (sym is) ∙ ap (object_at (numbered old.segments n)) (sym ks)) in
-    (subst (λ v. IsStart (numbered old.segments n) v) (sym ks) (subst (λ v. IsStart (numbered old.segments v) (offset_of a / 2)) (sym is) r.present.starts),
-    subst (λ (v : Start). index < length v.words) x_is (subst (λ o. index < length (words_of o)) r.has i))
+    let x_is : r.start ≡ object_at (numbered old.segments n) k = r.present.object ∙ (ap (λ v. object_at (numbered old.segments v) (offset_of a / 2)) (sym is) ∙ ap (object_at (numbered old.segments n)) (sym ks)) in (
+      subst (λ v. IsStart (numbered old.segments n) v) (sym ks) (subst (λ v. IsStart (numbered old.segments v) (offset_of a / 2)) (sym is) r.present.starts),
+      subst (λ (v : Start). index < length v.words) x_is (subst (λ o. index < length (words_of o)) r.has i),
+    )
 
 all : (thread : ℕ) (targets : Targets) (now : TerritoryView) (old mid new : PoolView) (a n k index word refers : ℕ) → IsPut thread targets now old mid new a n k index word refers → IsAll thread targets now old mid new a n k index word refers
 all thread targets now old mid new a n k index word refers d =
@@ -234,7 +234,7 @@ put_view thread targets now old mid new a n k index word refers d =
     (d.areas ∙ ap (λ (v : PoolView). v.areas) d.word_put)
     (d.lists ∙ ap (λ (v : PoolView). v.lists) d.word_put)
     (d.dirty ∙ (ap (λ v. dirty_after v (chain_of mid.dirty 1) n refers) l.mid_here ∙ (ap (λ (v : PoolView). cond b (with_dirty (chain_of v.dirty 1) n) (chain_of v.dirty 1)) d.word_put
-        ∙ (ap (λ v. cond b (with_dirty (chain_of old.dirty 1) v) (chain_of old.dirty 1)) d.segment ∙ sym (ap (λ o. cond (marks o refers) (with_dirty (chain_of old.dirty 1) (segment_of a)) (chain_of old.dirty 1)) seg)))))
+    ∙ (ap (λ v. cond b (with_dirty (chain_of old.dirty 1) v) (chain_of old.dirty 1)) d.segment ∙ sym (ap (λ o. cond (marks o refers) (with_dirty (chain_of old.dirty 1) (segment_of a)) (chain_of old.dirty 1)) seg)))))
     refl
     ∙ ap (λ v. with_word v a index word refers) d.view_is
 

@@ -1,6 +1,6 @@
 -- Codes of what a territory's value is made of, so that a list of territories has a model.
-use Rattle.std.specs.Prelude.{◌≡◌, ℕ, ◌==◌, Bool, if◌then◌else◌, List, Option, refl}
-use Rattle.std.specs.Coded.{Coded, code_by, coded×, coded_ℕ, coded_bool, coded_list, coded_option}
+use Rattle.std.specs.Prelude.{◌≡◌, ℕ, ◌==◌, if◌then◌else◌, List, refl}
+use Rattle.std.specs.Coded.{Coded, code_by, coded×, coded_ℕ, coded_list}
 use Rattle.trace_types.specs.declared.kind.Kind.{Kind}
 use Rattle.trace_types.specs.declared.kind.Kind.TheVariants as kind
 use Rattle.segment.specs.declared.space.Space.{Space}

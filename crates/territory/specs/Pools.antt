@@ -1,5 +1,5 @@
--- What a territory keeps of its segments: their numbers in lists, the open areas, the dirty ones and four counters.
-use Rattle.std.specs.Prelude.{◌≡◌, ◌≢◌, ℕ, zero, suc, ◌+◌, ◌-◌, ◌*◌, ◌/◌, ◌%◌, ◌<◌, ◌≤◌, ◌==◌, ◌&&◌, Bool, true, false, not, if◌then◌else◌, nat_le, List, [], ◌∷◌, ◌++◌, length, map, is_some, slice_index_or, slice_get, Option, Some, None}
+-- What a territory keeps of its segments: their numbers in lists, the open areas, the dirty ones and counters.
+use Rattle.std.specs.Prelude.{◌≡◌, ℕ, zero, suc, ◌+◌, ◌-◌, ◌*◌, ◌/◌, ◌%◌, ◌<◌, ◌≤◌, ◌==◌, ◌&&◌, Bool, true, false, not, if◌then◌else◌, nat_le, List, [], ◌∷◌, ◌++◌, length, map, is_some, slice_index_or, slice_get, Option, Some, None}
 use Rattle.std.specs.List.{sum_by, count_by}
 use Rattle.std.specs.Ordering.{nat_cmp}
 use Rattle.std.specs.FinMap.{FinMap, from_entries}
@@ -90,8 +90,11 @@ is_cell_space space.Cell = true
 is_cell_space _ = false
 
 abbrev pub cells_in : Segment → ℕ
-cells_in p = if is_free p.role then 0 else (if is_cell_space p.space then count_by (λ birth. not (birth == 0)) p.births else 0)
+cells_in p =
+    if is_free p.role then 0
+    else (if is_cell_space p.space then count_by (λ birth. not (birth == 0)) p.births else 0)
 
+-- the counters are what a count of the segments, areas and starts gives
 pub record AreCounted (segments : List Segment) (areas : List (Option ℕ)) (counts : SegmentCounts) : Type 0 where
   pub words : counts.segment_words ≡ sum_by used_words segments
   pub open_areas : counts.open_areas ≡ count_by is_some areas
@@ -112,13 +115,16 @@ pub record IsSettled (p : PoolView) : Type 0 where
 
 -- each segment in use has a start
 abbrev pub AreUsed : List Segment → Type 0
-AreUsed segments = (n : ℕ) → is_free (numbered segments n).role ≡ false → (k : ℕ) × IsStart (numbered segments n) k
+AreUsed segments =
+    (n : ℕ) → is_free (numbered segments n).role ≡ false → (k : ℕ) × IsStart (numbered segments n) k
 
 -- ---- the starts of all segments, where their numbers count from `base`
 
 abbrev pub start_in : ℕ → List Segment → ℕ → Option Start
 start_in base segments a =
-    if nat_le base (a / OFFSETS) && (a % 2 == 0) then spot (numbered segments (a / OFFSETS - base)) (a % OFFSETS / 2) else None
+    if nat_le base (a / OFFSETS) && (a % 2 == 0)
+    then spot (numbered segments (a / OFFSETS - base)) (a % OFFSETS / 2)
+    else None
 
 abbrev pub entry : ℕ → Option Start → List (ℕ × Start)
 entry a None = []
@@ -166,8 +172,10 @@ territory_view thread p targets = record {
 
 -- a segment as it is after word `index` of start k was put that refers to generation `refers`
 abbrev pub noted : Segment → ℕ → ℕ → ℕ → Segment
-noted p k index refers = if needs_mark (is_from_role p.role) p.generation refers then marked_at p (place_in p k index) refers else p
+noted p k index refers =
+    if needs_mark (is_from_role p.role) p.generation refers then marked_at p (place_in p k index) refers else p
 
 -- the list of dirty segments after that
 abbrev pub dirty_after : Segment → List ℕ → ℕ → ℕ → List ℕ
-dirty_after p dirty n refers = if needs_mark (is_from_role p.role) p.generation refers then with_dirty dirty n else dirty
+dirty_after p dirty n refers =
+    if needs_mark (is_from_role p.role) p.generation refers then with_dirty dirty n else dirty

@@ -1,5 +1,5 @@
 -- What contracts see of a territory.
-use Rattle.std.specs.Prelude.{◌≡◌, ◌≢◌, ℕ, ◌+◌, ◌*◌, ◌/◌, ◌<◌, ◌≤◌, ◌==◌, Bool, true, false, if◌then◌else◌, nat_lt, List, [], ◌∷◌, length, map, is_some, min, replicate, slice_get, slice_index, slice_index_or, slice_set, ◌++◌, ◌%◌, ◌⊎◌, Option, Some, None, option_map, IsSome, IsNone, IfSome, Contains, ◌&&◌, refl}
+use Rattle.std.specs.Prelude.{◌≡◌, ◌≢◌, ℕ, ◌+◌, ◌*◌, ◌/◌, ◌<◌, ◌≤◌, ◌==◌, Bool, true, false, if◌then◌else◌, nat_lt, nat_le, List, [], ◌∷◌, length, map, is_some, min, replicate, slice_get, slice_index, slice_index_or, slice_set, ◌++◌, ◌⊎◌, Option, Some, None, option_map, IsSome, IsNone, IfSome, Contains, ◌&&◌, refl}
 use Rattle.std.specs.List.{list_any, filter, flat_map, range_with_len}
 use Rattle.std.specs.Ordering.{nat_cmp}
 use Rattle.std.specs.FinMap.{FinMap, code, get, insert, empty}
@@ -40,9 +40,17 @@ pub record TerritoryView : Type 0 where
 
 abbrev pub coded_segment : Coded SegmentView
 coded_segment = code_by (Space × (ℕ × (ℕ × (Bool × (Bool × List ℕ)))))
-    (coded× coded_space (coded× coded_ℕ (coded× coded_ℕ (coded× coded_bool (coded× coded_bool (coded_list coded_ℕ))))))
+    (coded× coded_space (coded× coded_ℕ (coded× coded_ℕ
+    (coded× coded_bool (coded× coded_bool (coded_list coded_ℕ))))))
     (λ s. (s.space, (s.generation, (s.words, (s.is_from, (s.was_held, s.cards))))))
-    (λ p. record { space = p.0; generation = p.1.0; words = p.1.1.0; is_from = p.1.1.1.0; was_held = p.1.1.1.1.0; cards = p.1.1.1.1.1 })
+    (λ p. record {
+      space = p.0;
+      generation = p.1.0;
+      words = p.1.1.0;
+      is_from = p.1.1.1.0;
+      was_held = p.1.1.1.1.0;
+      cards = p.1.1.1.1.1;
+    })
     (λ _. refl)
 
 abbrev pub coded_targets : Coded Targets
@@ -50,10 +58,22 @@ coded_targets = code_by (ℕ × (ℕ × ℕ)) (coded× coded_ℕ (coded× coded_
     (λ t. (t.cg, (t.min, t.max))) (λ p. record { cg = p.0; min = p.1.0; max = p.1.1 }) (λ _. refl)
 
 abbrev pub coded_territory : Coded TerritoryView
-coded_territory = code_by (ℕ × (FinMap nat_cmp Start × (List (Option SegmentView) × (List (Option ℕ) × (List (List ℕ) × (List ℕ × Targets))))))
-    (coded× coded_ℕ (coded× (code coded_ℕ coded_start) (coded× (coded_list (coded_option coded_segment)) (coded× (coded_list (coded_option coded_ℕ)) (coded× (coded_list (coded_list coded_ℕ)) (coded× (coded_list coded_ℕ) coded_targets))))))
+coded_territory = code_by
+    (ℕ × (FinMap nat_cmp Start × (List (Option SegmentView) ×
+    (List (Option ℕ) × (List (List ℕ) × (List ℕ × Targets))))))
+    (coded× coded_ℕ (coded× (code coded_ℕ coded_start) (coded× (coded_list (coded_option coded_segment))
+    (coded× (coded_list (coded_option coded_ℕ)) (coded× (coded_list (coded_list coded_ℕ))
+    (coded× (coded_list coded_ℕ) coded_targets))))))
     (λ t. (t.thread, (t.starts, (t.segments, (t.areas, (t.lists, (t.dirty, t.targets)))))))
-    (λ p. record { thread = p.0; starts = p.1.0; segments = p.1.1.0; areas = p.1.1.1.0; lists = p.1.1.1.1.0; dirty = p.1.1.1.1.1.0; targets = p.1.1.1.1.1.1 })
+    (λ p. record {
+      thread = p.0;
+      starts = p.1.0;
+      segments = p.1.1.0;
+      areas = p.1.1.1.0;
+      lists = p.1.1.1.1.0;
+      dirty = p.1.1.1.1.1.0;
+      targets = p.1.1.1.1.1.1;
+    })
     (λ _. refl)
 
 -- the segment of a number, if it is in use
@@ -72,7 +92,8 @@ from_numbers t generation = chain_of t.lists (10 + generation)
 
 -- n is the next number to be used: the first free one, or where none is free the first that never was used
 abbrev pub IsNextNumber : List (List ℕ) → ℕ → Type 0
-IsNextNumber lists n = (slice_get (chain_of lists 0) 0 ≡ Some n) ⊎ ((chain_of lists 0 ≡ []) × (n ≡ link_count lists))
+IsNextNumber lists n =
+    (slice_get (chain_of lists 0) 0 ≡ Some n) ⊎ ((chain_of lists 0 ≡ []) × (n ≡ link_count lists))
 
 -- the lists with n among the free numbers, where it never was used
 abbrev pub with_number : List (List ℕ) → ℕ → List (List ℕ)
@@ -159,7 +180,8 @@ pub record Refers (x : Start) (index b : ℕ) : Type 0 where
 -- generation. `generation_at` tells the generation of each object and cell, of all territories.
 abbrev pub AreCardsSound : (ℕ → Option ℕ) → TerritoryView → Type 0
 AreCardsSound generation_at t =
-    (a index b h : ℕ) (x : Start) → get t.starts a ≡ Some x → Refers x index b → generation_at b ≡ Some h → h < x.generation
+    (a index b h : ℕ) (x : Start) → get t.starts a ≡ Some x
+    → Refers x index b → generation_at b ≡ Some h → h < x.generation
     → card_byte t a index ≤ h
 
 -- `after` tells the generations that `before` tells, and that of a, to which no start refers
@@ -175,7 +197,9 @@ needs_mark is_from g refers = if is_from then nat_lt refers 255 else nat_lt refe
 abbrev pub with_card : ℕ → ℕ → ℕ → SegmentView → SegmentView
 with_card a index refers s =
     let card = card_of (place_of s a index) in
-    if needs_mark s.is_from s.generation refers then record s { cards = slice_set s.cards card (min (slice_index s.cards card) refers) } else s
+    if needs_mark s.is_from s.generation refers
+    then record s { cards = slice_set s.cards card (min (slice_index s.cards card) refers) }
+    else s
 
 abbrev pub marks : Option SegmentView → ℕ → Bool
 marks None refers = false
@@ -189,7 +213,8 @@ with_dirty dirty n = if list_any (λ m. n == m) dirty then dirty else dirty ++ n
 abbrev pub TellsLower : (ℕ → Option ℕ) → Option Start → ℕ → ℕ → Type 0
 TellsLower generation_at None word refers = Unit {0}
 TellsLower generation_at (Some x) word refers =
-    (b h : ℕ) → has_values x.kind ≡ true → value_of word ≡ Some (value.Object b) → generation_at b ≡ Some h → h < x.generation → refers ≤ h
+    (b h : ℕ) → has_values x.kind ≡ true → value_of word ≡ Some (value.Object b)
+    → generation_at b ≡ Some h → h < x.generation → refers ≤ h
 
 -- a territory with another word in the start at a, and with the card of the word marked where that is needed
 abbrev pub with_word : TerritoryView → ℕ → ℕ → ℕ → ℕ → TerritoryView
@@ -209,15 +234,24 @@ pub record IsAsBefore (old new : TerritoryView) : Type 0 where
 
 -- a new segment
 abbrev pub fresh_segment : Space → ℕ → ℕ → SegmentView
-fresh_segment s g words = record { space = s; generation = g; words = words; is_from = false; was_held = false; cards = replicate (card_count words) 255 }
+fresh_segment s g words = record {
+  space = s;
+  generation = g;
+  words = words;
+  is_from = false;
+  was_held = false;
+  cards = replicate (card_count words) 255;
+}
 
--- Segment n gets an object of this size. If it was in use it was the open one of its area, and is as before; else
--- it has the next number, and is new.
+-- Segment n gets an object of this size. If it was in use it was the open one of its area, and is as before;
+-- else it has the next number, and is new.
 pub record IsPlaced (old new : TerritoryView) (s : Space) (g size n : ℕ) : Type 0 where
   pub used : IsSome (segment_at old n)
-      → (segment_at new n ≡ segment_at old n) × (new.lists ≡ old.lists) × (slice_get old.areas (area_of s g) ≡ Some (Some n)) × (is_large size ≡ false)
+      → (segment_at new n ≡ segment_at old n) × (new.lists ≡ old.lists)
+      × (slice_get old.areas (area_of s g) ≡ Some (Some n)) × (is_large size ≡ false)
   pub fresh : IsNone (segment_at old n)
-      → (segment_at new n ≡ Some (fresh_segment s g (words_for size))) × IsNextNumber old.lists n × (new.lists ≡ moved (with_number old.lists n) 0 (1 + g) n)
+      → (segment_at new n ≡ Some (fresh_segment s g (words_for size)))
+      × IsNextNumber old.lists n × (new.lists ≡ moved (with_number old.lists n) 0 (1 + g) n)
   pub fits : IfSome (segment_at new n) (λ v. (v.space ≡ s) × (v.generation ≡ g) × (v.is_from ≡ false))
   pub others : (m : ℕ) → m ≢ n → segment_at new m ≡ segment_at old m
   pub areas : new.areas ≡ areas_for old.areas (area_of s g) size n
@@ -257,16 +291,35 @@ numbers_of lists generation = chain_of lists (1 + generation) ++ chain_of lists 
 
 -- the starts of a segment, in ascending order
 unfoldable pub starts_in : TerritoryView → ℕ → List ℕ
-starts_in t n = filter (λ a. is_some (get t.starts a)) (map (λ k. address_of t.thread n (2 * k)) (range_with_len 0 (words_in (segment_at t n) / 2)))
+starts_in t n =
+    filter (λ a. is_some (get t.starts a))
+    (map (λ k. address_of t.thread n (2 * k)) (range_with_len 0 (words_in (segment_at t n) / 2)))
 
 unfoldable pub starts_of_generation : TerritoryView → ℕ → List ℕ
 starts_of_generation t generation = flat_map (starts_in t) (numbers_of t.lists generation)
 
 -- the list has the starts of the generation, each once
 pub record AreItsStarts (t : TerritoryView) (generation : ℕ) (list : List ℕ) : Type 0 where
-  pub starts : (a : ℕ) → Contains list a → IfSome (get t.starts a) (λ x. x.generation ≡ generation) × IsSome (get t.starts a)
+  pub starts : (a : ℕ) → Contains list a
+      → IfSome (get t.starts a) (λ x. x.generation ≡ generation) × IsSome (get t.starts a)
   pub all : (a : ℕ) (x : Start) → get t.starts a ≡ Some x → x.generation ≡ generation → Contains list a
   pub once : (a : ℕ) → times a list ≤ 1
+
+-- ---- a collection
+
+-- a segment as it is after the generations up to cg were set aside
+abbrev pub when_begun : ℕ → SegmentView → SegmentView
+when_begun cg s = if nat_le s.generation cg then record s { is_from = true } else s
+
+-- The lists, after the generations up to cg were set aside: their segments are behind the from-segments.
+pub record AreListsBegun (old new : List (List ℕ)) (cg : ℕ) : Type 0 where
+  pub same : length new ≡ length old
+  pub free : chain_of new 0 ≡ chain_of old 0
+  pub current : (g : ℕ) → g < 9
+      → chain_of new (1 + g) ≡ (if nat_le g cg then [] else chain_of old (1 + g))
+  pub from : (g : ℕ) → g < 9
+      → chain_of new (10 + g)
+      ≡ (if nat_le g cg then chain_of old (10 + g) ++ chain_of old (1 + g) else chain_of old (10 + g))
 
 abbrev pub no_territory : ℕ → TerritoryView
 no_territory thread = record {

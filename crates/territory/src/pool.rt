@@ -4,6 +4,7 @@ ghost use Rattle.std.specs.Prelude.{◌≡◌, ◌<◌, ◌/◌, ◌↔◌, [], 
 ghost use Rattle.segment.specs.Segments.{IsStart};
 ghost use Rattle.territory.specs.Pools.{IsSettled, numbered};
 
+mod collection;
 mod lists;
 mod numbers;
 mod objects;
@@ -39,7 +40,13 @@ impl Model for Pool {
 
     ghost Value = { PoolView };
 
-    ghost view = { λ a. record { segments = a.segments.items; areas = a.areas.items; lists = a.lists; dirty = a.dirty; counts = a.counts } };
+    ghost view = { λ a. record {
+      segments = a.segments.items;
+      areas = a.areas.items;
+      lists = a.lists;
+      dirty = a.dirty;
+      counts = a.counts;
+    } };
 }
 
 fn closed_areas(alloc: Global, count: usize) -> Result<Vec<Option<usize>>, AllocError>

@@ -7,6 +7,7 @@ ghost use Rattle.gc_words.specs.Layout.{address_of, segment_of, offset_of};
 ghost use Rattle.territory.specs.Territories.{no_territory, words_of, with_word, IsShaped, HaveAddresses, TellsLower, AreCardsSound};
 
 mod allocating;
+mod collecting;
 mod listing;
 
 use crate::pool::Pool;
@@ -85,7 +86,8 @@ impl Territory {
         if at.thread() != self.thread {
             return false;
         }
-        self.pool.is_start(at.segment() as usize, at.offset() as usize)
+        self.pool
+            .is_start(at.segment() as usize, at.offset() as usize)
     }
 
     /// The kind of a start.
@@ -145,7 +147,8 @@ impl Territory {
     pub fn put(&mut self, at: Address, index: u32, word: u64, refers: u8)
         requires { index < length (words_of (map.get self.old.starts at)) }
         ensures after { self.new ≡ with_word self.old at index word refers }
-        ensures sound { (generation_at : ℕ → Option ℕ) → TellsLower generation_at (map.get self.old.starts at) word refers
+        ensures sound { (generation_at : ℕ → Option ℕ)
+            → TellsLower generation_at (map.get self.old.starts at) word refers
             → AreCardsSound generation_at self.old → AreCardsSound generation_at self.new }
     {
         let (segment, start) = place(at);

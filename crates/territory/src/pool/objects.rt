@@ -47,7 +47,8 @@ impl Pool {
             HasLength (kind_of space first) (length_of space first) }
         ensures settled { IsSettled self.new }
         ensures offset { result ≡ (numbered self.old.segments n).top }
-        ensures segments { self.new.segments ≡ slice_set self.old.segments n (grown (numbered self.old.segments n) first size birth) }
+        ensures segments { self.new.segments
+            ≡ slice_set self.old.segments n (grown (numbered self.old.segments n) first size birth) }
         ensures areas { self.new.areas ≡ self.old.areas }
         ensures lists { self.new.lists ≡ self.old.lists }
         ensures dirty { self.new.dirty ≡ self.old.dirty }
@@ -64,7 +65,9 @@ impl Pool {
         requires start { IsStart (numbered self.old.segments n) k }
         requires index_in { index < length (object_at (numbered self.old.segments n) k).words }
         ensures settled { IsSettled self.new }
-        ensures after { self.new ≡ record self.old { segments = slice_set self.old.segments n (put_in (numbered self.old.segments n) k index word) } }
+        ensures after { self.new ≡ record self.old {
+          segments = slice_set self.old.segments n (put_in (numbered self.old.segments n) k index word);
+        } }
     {
         self.segments[n].put(k, index, word);
     }
@@ -76,8 +79,10 @@ impl Pool {
         requires start { IsStart (numbered self.old.segments n) k }
         requires index_in { index < length (object_at (numbered self.old.segments n) k).words }
         ensures settled { IsSettled self.new }
-        ensures segments { self.new.segments ≡ slice_set self.old.segments n (noted (numbered self.old.segments n) k index refers) }
-        ensures dirty { chain_of self.new.dirty 1 ≡ dirty_after (numbered self.old.segments n) (chain_of self.old.dirty 1) n refers }
+        ensures segments { self.new.segments
+            ≡ slice_set self.old.segments n (noted (numbered self.old.segments n) k index refers) }
+        ensures dirty { chain_of self.new.dirty 1
+            ≡ dirty_after (numbered self.old.segments n) (chain_of self.old.dirty 1) n refers }
         ensures areas { self.new.areas ≡ self.old.areas }
         ensures lists { self.new.lists ≡ self.old.lists }
     {

@@ -30,9 +30,12 @@ impl Territory {
         requires born { 0 < birth }
         ensures address { IfOk result (λ a. IsAddress a × (thread_of a ≡ self.old.thread)) }
         ensures free { IfOk result (λ a. map.get self.old.starts a ≡ None) }
-        ensures starts { IfOk result (λ a. self.new.starts ≡ map.insert self.old.starts a (fresh_start kind length generation birth)) }
-        ensures segments { IfOk result (λ a. IsPlaced self.old self.new (space_of kind) generation (size_for kind length) (segment_of a)) }
-        ensures sound { IfOk result (λ a. (before after : ℕ → Option ℕ) → IsToldMore before after self.old a
+        ensures starts { IfOk result (λ a.
+            self.new.starts ≡ map.insert self.old.starts a (fresh_start kind length generation birth)) }
+        ensures segments { IfOk result (λ a.
+            IsPlaced self.old self.new (space_of kind) generation (size_for kind length) (segment_of a)) }
+        ensures sound { IfOk result (λ a. (before after : ℕ → Option ℕ)
+            → IsToldMore before after self.old a
             → AreCardsSound before self.old → AreCardsSound after self.new) }
         ensures refused { OnErr result (IsAsBefore self.old self.new) }
         ensures thread { self.new.thread ≡ self.old.thread }

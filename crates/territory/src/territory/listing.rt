@@ -53,7 +53,8 @@ impl Territory {
     /// The start of the same generation after another. None where it is the last.
     pub fn next_start(&self, at: Address) -> Option<Address>
         requires { IsSome (map.get self.now.starts at) }
-        ensures { IfSome (map.get self.now.starts at) (λ x. IsNext (starts_of_generation self.now x.generation) at result) }
+        ensures { IfSome (map.get self.now.starts at)
+            (λ x. IsNext (starts_of_generation self.now x.generation) at result) }
     {
         let (n, k) = place(at);
         if let Some(next) = self.pool.segment(n).next_start(k + 1) {

@@ -1,4 +1,4 @@
-use Rattle.territory.proofs.Growing.{settled_push, settled_links}
+use Rattle.territory.proofs.Growing.{settled_push}
 use Rattle.territory.proofs.pool.Pool.add_segment.Goals as goal
 use Rattle.std.proofs.Common.{arith}
 

@@ -1,4 +1,4 @@
-use Rattle.std.proofs.Common.{sym, ◌∙◌}
+use Rattle.std.proofs.Common.{◌∙◌}
 use Rattle.territory.proofs.Nexts.{next_in_from, next_in_current, none_if, other_role}
 use Rattle.territory.proofs.pool.Pool.next_of.Goals as goal
 

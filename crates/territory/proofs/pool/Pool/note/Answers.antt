@@ -1,4 +1,4 @@
-use Rattle.std.proofs.Common.{◌∙◌, arith}
+use Rattle.std.proofs.Common.{◌∙◌}
 use Rattle.territory.proofs.Putting.{seen_within, here, need, need_first, marked_small, not_noted, was_noted, settled_marked, clean_loose, dirty_now, dirty_still, dirty_grown, dirty_kept, dirty_if}
 use Rattle.territory.proofs.pool.Pool.note.Goals as goal
 

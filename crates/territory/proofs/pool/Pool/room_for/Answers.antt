@@ -1,4 +1,4 @@
-use Rattle.std.proofs.Common.{refl, ap, ◌∙◌, ◌*◌, ◌+◌, arith}
+use Rattle.std.proofs.Common.{ap, ◌*◌, ◌+◌}
 use Rattle.territory.proofs.Roomy.{room_large, room_open, room_small, settled_area}
 use Rattle.territory.proofs.pool.Pool.room_for.Goals as goal
 

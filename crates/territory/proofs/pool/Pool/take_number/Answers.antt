@@ -1,6 +1,5 @@
 use Rattle.territory.proofs.Growing.{settled_more, taken_first, taken_more}
 use Rattle.territory.proofs.pool.Pool.take_number.Goals as goal
-use Rattle.std.proofs.Common.{refl, sym, subst, ap, ◌∙◌, arith}
 
 pub returns-in-Some-clause-ok : goal.returns-in-Some-clause-ok
 returns-in-Some-clause-ok c = taken_first _ _ _ _ c.self.view_is c.requires c.first.ensures c.in-Some.is

@@ -1,7 +1,7 @@
-use Rattle.std.proofs.Common.{ap, sym, ◌∙◌, subst}
+use Rattle.std.proofs.Common.{ap, sym, ◌∙◌}
 use Rattle.std.specs.FinMap as map
-use Rattle.territory.specs.Territories.{TerritoryView, IsPlaced, fresh_start}
-use Rattle.territory.proofs.Allocated.{size_seen, size_is, fits_seen, refused, made, address_is, was_nothing, one_start, placed, placed_for, size_for_is, sound_made, used_made, on_err}
+use Rattle.territory.specs.Territories.{TerritoryView, fresh_start}
+use Rattle.territory.proofs.Allocated.{size_seen, fits_seen, refused, made, address_is, was_nothing, one_start, placed, placed_for, size_for_is, sound_made, used_made, on_err}
 use Rattle.territory.proofs.territory.Territory.allocate.Goals as goal
 
 pub room_for-requires-clause-some : goal.room_for-requires-clause-some

@@ -1,7 +1,6 @@
 use Rattle.territory.proofs.Reading.{reach_segment, at, value, shaped, addresses}
 use Rattle.territory.proofs.territory.Territory.kind.Goals as goal
 use Rattle.segment.specs.Segments.{Start}
-use Rattle.std.proofs.Common.{arith}
 
 pub segment-requires : goal.segment-requires
 segment-requires c = reach_segment _ _ _ _ _ _ c.self.invariant.1 c.self.view_is c.requires c.place-segment.ensures.segment

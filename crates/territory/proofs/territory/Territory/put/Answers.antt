@@ -1,4 +1,4 @@
-use Rattle.territory.proofs.Worded.{IsPut, put_starts, note_starts, put_view, put_sound, used_put}
+use Rattle.territory.proofs.Worded.{put_starts, note_starts, put_view, put_sound, used_put}
 use Rattle.territory.proofs.territory.Territory.put.Goals as goal
 
 pub put-requires-clause-start : goal.put-requires-clause-start
@@ -15,15 +15,52 @@ note-requires-clause-index_in c = (note_starts _ _ _ _ _ _ _ _ _ _ c.self.view_i
 
 pub returns-clause-after : goal.returns-clause-after
 returns-clause-after c = put_view _ _ _ _ _ _ _ _ _ _ _ _
-    (record { view_is = c.self.view_is; settled = c.self.invariant.1; new_settled = c.note.ensures.settled; index_in = c.requires; segment = c.place-segment.ensures.segment; start = c.place-segment.ensures.start;
-        word_put = c.put.ensures.after; segments = c.note.ensures.segments; dirty = c.note.ensures.dirty; areas = c.note.ensures.areas; lists = c.note.ensures.lists })
+    (record {
+      view_is = c.self.view_is;
+      settled = c.self.invariant.1;
+      new_settled = c.note.ensures.settled;
+      index_in = c.requires;
+      segment = c.place-segment.ensures.segment;
+      start = c.place-segment.ensures.start;
+      word_put = c.put.ensures.after;
+      segments = c.note.ensures.segments;
+      dirty = c.note.ensures.dirty;
+      areas = c.note.ensures.areas;
+      lists = c.note.ensures.lists;
+    })
 
 pub returns-clause-sound : goal.returns-clause-sound
 returns-clause-sound c = λ generation_at. put_sound _ _ _ _ _ _ _ _ _ _ _ _ generation_at
-    (record { view_is = c.self.view_is; settled = c.self.invariant.1; new_settled = c.note.ensures.settled; index_in = c.requires; segment = c.place-segment.ensures.segment; start = c.place-segment.ensures.start;
-        word_put = c.put.ensures.after; segments = c.note.ensures.segments; dirty = c.note.ensures.dirty; areas = c.note.ensures.areas; lists = c.note.ensures.lists })
+    (record {
+      view_is = c.self.view_is;
+      settled = c.self.invariant.1;
+      new_settled = c.note.ensures.settled;
+      index_in = c.requires;
+      segment = c.place-segment.ensures.segment;
+      start = c.place-segment.ensures.start;
+      word_put = c.put.ensures.after;
+      segments = c.note.ensures.segments;
+      dirty = c.note.ensures.dirty;
+      areas = c.note.ensures.areas;
+      lists = c.note.ensures.lists;
+    })
 
 pub invariant_of-self : goal.invariant_of-self
-invariant_of-self c = (c.self.invariant.0, c.note.ensures.settled, used_put _ _ _ _ _ _ _ _ _ _ _ _
-    (record { view_is = c.self.view_is; settled = c.self.invariant.1; new_settled = c.note.ensures.settled; index_in = c.requires; segment = c.place-segment.ensures.segment; start = c.place-segment.ensures.start;
-        word_put = c.put.ensures.after; segments = c.note.ensures.segments; dirty = c.note.ensures.dirty; areas = c.note.ensures.areas; lists = c.note.ensures.lists }) c.self.invariant.2)
+invariant_of-self c = (
+  c.self.invariant.0,
+  c.note.ensures.settled,
+  used_put _ _ _ _ _ _ _ _ _ _ _ _
+      (record {
+        view_is = c.self.view_is;
+        settled = c.self.invariant.1;
+        new_settled = c.note.ensures.settled;
+        index_in = c.requires;
+        segment = c.place-segment.ensures.segment;
+        start = c.place-segment.ensures.start;
+        word_put = c.put.ensures.after;
+        segments = c.note.ensures.segments;
+        dirty = c.note.ensures.dirty;
+        areas = c.note.ensures.areas;
+        lists = c.note.ensures.lists;
+      }) c.self.invariant.2,
+)

@@ -1,0 +1,80 @@
+//! Rows of a territory whose answers are known from outside.
+
+ghost use Rattle.std.specs.Prelude.{◌≤◌};
+
+use crate::counts::SegmentCounts;
+use crate::territory::Territory;
+use gc_words::Address;
+use std::alloc::{AllocError, Global};
+use std::test::Fail;
+use trace_types::Kind;
+
+#[test]
+fn a_pair_of_thread_3(rt: HostRuntime) -> Result<(), Fail> {
+    let mut territory = Territory::new(rt.alloc(), 3)?;
+    let at = territory.allocate(Kind::Pair, 2, 0, 7)?;
+    assert!(rt; territory.is_start(at));
+    assert_eq!(rt; at.thread(), 3);
+    assert_eq!(rt; (territory.kind(at), territory.length(at)), (Kind::Pair, 2));
+    assert_eq!(rt; (territory.generation(at), territory.birth(at)), (0, 7));
+    assert_eq!(rt; (territory.word(at, 0), territory.word(at, 1)), (0, 0));
+    assert_eq!(rt;
+        territory.counts(),
+        SegmentCounts {
+            segment_words: 512,
+            open_areas: 1,
+            held_segments: 0,
+            cells: 0
+        }
+    );
+    Ok(())
+}
+
+/// The words of the segment in which a vector of so many fields lies, and how many areas are open then.
+fn segment_of(alloc: Global, fields: u32) -> Result<(u64, u64), AllocError>
+    requires { fields ≤ 4000000 }
+{
+    let mut territory = Territory::new(alloc, 0)?;
+    territory.allocate(Kind::Vector, fields, 8, 1)?;
+    let counts = territory.counts();
+    Ok((counts.segment_words, counts.open_areas))
+}
+
+#[test]
+fn sizes(rt: HostRuntime) -> Result<(), Fail> {
+    let alloc = rt.alloc();
+    assert_eq!(rt; segment_of(alloc, 0)?, (512, 1));
+    assert_eq!(rt; segment_of(alloc, 1)?, (512, 1));
+    assert_eq!(rt; segment_of(alloc, 126)?, (512, 1));
+    assert_eq!(rt; segment_of(alloc, 127)?, (512, 1));
+    assert_eq!(rt; segment_of(alloc, 128)?, (130, 0));
+    assert_eq!(rt; segment_of(alloc, 129)?, (130, 0));
+    assert_eq!(rt; segment_of(alloc, 130)?, (132, 0));
+    assert_eq!(rt; segment_of(alloc, 4000000)?, (4000002, 0));
+    Ok(())
+}
+
+/// The start after another.
+fn after(territory: &Territory, at: Address) -> Option<Address> {
+    if territory.is_start(at) {
+        territory.next_start(at)
+    } else {
+        None
+    }
+}
+
+#[test]
+fn starts_are_shown(rt: HostRuntime) -> Result<(), Fail> {
+    let mut territory = Territory::new(rt.alloc(), 5)?;
+    let first = territory.allocate(Kind::Vector, 3, 2, 1)?;
+    let second = territory.allocate(Kind::Vector, 200, 2, 2)?;
+    let young = territory.allocate(Kind::Cell, 2, 0, 3)?;
+    assert_eq!(rt; territory.first_start(2), Some(first));
+    assert_eq!(rt; after(&territory, first), Some(second));
+    assert_eq!(rt; after(&territory, second), None);
+    assert_eq!(rt; territory.first_start(0), Some(young));
+    assert_eq!(rt; territory.first_start(1), None);
+    assert_eq!(rt; territory.counts().cells, 1);
+    assert_eq!(rt; territory.first_dirty(), None);
+    Ok(())
+}
