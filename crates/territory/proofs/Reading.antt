@@ -1,7 +1,7 @@
 -- What a territory tells of a start. `q` is the segment that was read, and k the number of the start in it.
-use Rattle.std.proofs.Common.{◌≡◌, ◌≢◌, ℕ, ◌+◌, ◌*◌, ◌/◌, ◌%◌, ◌<◌, ◌≤◌, length, get_or, Option, Some, None, IsSome, IfSome, refl, sym, ◌∙◌, ap, subst, arith}
+use Rattle.std.proofs.Common.{◌≡◌, ◌≢◌, ℕ, ◌/◌, ◌%◌, ◌<◌, ◌≤◌, length, get_or, Option, Some, None, IsSome, IfSome, refl, sym, ◌∙◌, ap, subst, arith}
 use Rattle.std.specs.FinMap.{get}
-use Rattle.gc_words.specs.declared.address.TheConstants.{SEGMENTS, THREADS}
+use Rattle.gc_words.specs.declared.address.TheConstants.{THREADS}
 use Rattle.gc_words.specs.Layout.{thread_of, segment_of, offset_of}
 use Rattle.segment.specs.Layout.{count_of}
 use Rattle.segment.specs.Segments.{Segment, Start, IsStart, object_at}
