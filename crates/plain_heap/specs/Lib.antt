@@ -1,2 +1,0 @@
-pub mod HeapView
-pub mod Plain
