@@ -1,0 +1,23 @@
+//! The definitions of a trace as a program: plain lists, and each public call equals its definition.
+//!
+//! A definition can be wrong, and everything be proved against it. So the definitions also run: this crate is
+//! the plain, slow program whose contracts are the definitions of `trace_types`, word for word. What it prints
+//! is compared with worked cases and with other programs. No program for users stands on it.
+//!
+//! In contracts a `State`, an `Object`, a `Registration` and a `Rule` are those of the definitions; a `Value`
+//! and a `Note` mean one by `meaning` and `note_meaning`. Invariant of `State`: 4,096 registers, 256 notes, and
+//! the objects stand in ascending order of births. Each call that gives a `Result` takes memory, and no other
+//! does; where one is refused, a state that it was to change may be any state.
+#![tactic(auto)]
+
+mod note;
+mod object;
+mod registration;
+mod state;
+mod value;
+
+pub use note::Note;
+pub use object::Object;
+pub use registration::Registration;
+pub use state::State;
+pub use value::Value;
