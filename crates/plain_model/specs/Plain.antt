@@ -1,5 +1,7 @@
 -- What the plain values and notes of the program mean.
-use Rattle.std.specs.Prelude.{ℕ}
+use Rattle.std.specs.Prelude.{◌≡◌, ℕ, suc, ◌<◌, nat_lt, List, [], ◌∷◌, length, slice_index_or, Some, if◌then◌else◌}
+use Rattle.std.specs.FinMap.{find}
+use Rattle.std.specs.Ordering.{nat_cmp}
 use Rattle.trace_types.specs.Values as values
 use Rattle.trace_types.specs.States as states
 use Rattle.plain_model.specs.declared.value.Value.{Value}
@@ -25,3 +27,14 @@ abbrev pub note_meaning : Note → states.Note
 note_meaning Empty = states.empty
 note_meaning (SetTo birth) = states.set_to birth
 note_meaning Gone = states.gone
+
+module _ {X : Type 0} where
+  -- in an ascending list, how many entries are of a lesser birth
+  abbrev pub place : ℕ → List (ℕ × X) → ℕ
+  place birth [] = 0
+  place birth (entry ∷ rest) = if nat_lt entry.0 birth then suc (place birth rest) else 0
+
+  -- the entry of the birth is the one at this index
+  abbrev pub HasEntry : List (ℕ × X) → ℕ → ℕ → Type 0
+  HasEntry entries i birth =
+      (i < length entries) × ((e : ℕ × X) → (slice_index_or entries i e).0 ≡ birth) × ((e : ℕ × X) → find nat_cmp birth entries ≡ Some (slice_index_or entries i e).1)

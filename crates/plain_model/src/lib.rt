@@ -10,6 +10,7 @@
 //! does; where one is refused, a state that it was to change may be any state.
 #![tactic(auto)]
 
+mod entries;
 mod note;
 mod object;
 mod registration;

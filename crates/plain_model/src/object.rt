@@ -1,5 +1,9 @@
 //! Objects.
 
+ghost use Rattle.std.specs.Prelude.{◌≡◌, map, set};
+ghost use Rattle.trace_types.specs.Values as values;
+ghost use Rattle.plain_model.specs.Plain.{meaning};
+
 use crate::value::Value;
 use std::marker::Model;
 use trace_types::Kind;
@@ -30,4 +34,16 @@ impl Model for Object {
       fields = map meaning o.fields.items;
       queue = map queued o.queue.items;
     } };
+}
+
+impl Object {
+    /// Puts a value into a field. Without a field of this index nothing changes.
+    pub fn with_field(&mut self, index: u32, value: Value)
+        ensures { self.new ≡ record self.old { fields = set self.old.fields index (meaning value) } }
+    {
+        let place = index as usize;
+        if place < self.fields.len() {
+            self.fields[place] = value;
+        }
+    }
 }

@@ -1,17 +1,18 @@
 //! The state of a trace.
 
-ghost use Rattle.std.specs.Prelude.{◌≡◌, IfOk, MatchOption, Some, None, replicate};
+ghost use Rattle.std.specs.Prelude.{◌≡◌, IfOk, OnOk, MatchOption, Some, None, replicate, map};
 ghost use Rattle.trace_types.specs.Values as values;
 ghost use Rattle.trace_types.specs.States as states;
 ghost use Rattle.plain_model.specs.Plain.{meaning, note_meaning};
 
+use crate::entries::{index_of, put_entry};
 use crate::note::Note;
 use crate::object::Object;
 use crate::registration::Registration;
 use crate::value::Value;
 use std::alloc::{AllocError, Global};
 use std::marker::Model;
-use trace_types::{Operand, Register};
+use trace_types::{Kind, Operand, Register};
 
 const REGISTERS: usize = 4096;
 
@@ -139,5 +140,63 @@ impl State {
             }
         }
         None
+    }
+
+    /// Puts the object into the graph under the birth.
+    pub fn with_object(&mut self, birth: u32, object: Object) -> Result<(), AllocError>
+        ensures { OnOk result (self.new ≡ states.with_object self.old birth object) }
+    {
+        put_entry(&mut self.graph, birth, object)?;
+        Ok(())
+    }
+
+    /// Puts a value into a field of the object of this birth.
+    pub fn with_field(&mut self, birth: u32, index: u32, value: Value)
+        ensures { (o : values.Object) → values.object_at self.old.graph birth ≡ Some o → self.new ≡ states.with_field self.old birth o index (meaning value) }
+    {
+        match index_of(&self.graph, birth) {
+            Some(place) => self.graph[place].1.with_field(index, value),
+            None => (),
+        }
+    }
+
+    /// A new object of the current thread, in generation 0.
+    pub fn new_object(&self, alloc: Global, kind: Kind, fields: Vec<Value>) -> Object
+        ensures { result ≡ states.new_object self.now kind (map meaning fields.items) }
+    {
+        Object {
+            kind,
+            creator: self.thread,
+            generation: 0,
+            fields,
+            queue: Vec::new(alloc),
+        }
+    }
+
+    /// Makes a new object, whose birth is the line, and puts it into register d.
+    pub fn with_new(
+        &mut self,
+        alloc: Global,
+        line: u32,
+        d: Register,
+        kind: Kind,
+        fields: Vec<Value>,
+    ) -> Result<(), AllocError>
+        ensures { OnOk result (self.new ≡ states.with_new self.old line d kind (map meaning fields.items)) }
+    {
+        let object = self.new_object(alloc, kind, fields);
+        self.with_object(line, object)?;
+        self.with_register(d, Value::Object(line));
+        Ok(())
+    }
+
+    /// How often the object is locked.
+    pub fn lock_count(&self, birth: u32) -> u32
+        ensures { result ≡ states.lock_count self.now birth }
+    {
+        match index_of(&self.locks, birth) {
+            Some(place) => self.locks[place].1,
+            None => 0,
+        }
     }
 }

@@ -1,0 +1,55 @@
+//! Lists of entries by birth, in ascending order of births.
+
+ghost use Rattle.std.specs.Prelude.{◌≡◌, ◌<◌, IfOk, OnOk, OnErr, MatchOption, Some, None, length, slice_index_or, IsTrue};
+ghost use Rattle.std.specs.FinMap.{find, put, is_sorted};
+ghost use Rattle.std.specs.Ordering.{nat_cmp};
+ghost use Rattle.plain_model.specs.Plain.{place, HasEntry};
+
+use std::alloc::AllocError;
+
+// Where the entry of this birth stands.
+pub(crate) fn index_of<X>(entries: &[(u32, X)], birth: u32) -> Option<usize>
+    ensures { MatchOption result (find nat_cmp birth entries.now ≡ None) (λ i. HasEntry entries.now i birth) }
+{
+    for (index, entry) in entries.iter().enumerate() {
+        if entry.0 == birth {
+            return Some(index);
+        }
+    }
+    None
+}
+
+// Where an entry of this birth stands, or would.
+fn place_of<X>(entries: &[(u32, X)], birth: u32) -> usize
+    ensures { result ≡ place birth entries.now }
+{
+    for (index, entry) in entries.iter().enumerate() {
+        if birth <= entry.0 {
+            return index;
+        }
+    }
+    entries.len()
+}
+
+// Puts an entry into its place. Refused, the list is as it was.
+pub(crate) fn put_entry<X: Drop>(
+    entries: &mut Vec<(u32, X)>,
+    birth: u32,
+    value: X,
+) -> Result<(), AllocError>
+    requires { IsTrue (is_sorted nat_cmp entries.old.items) }
+    ensures put { OnOk result (entries.new.items ≡ put nat_cmp birth value entries.old.items) }
+    ensures refused { OnErr result (entries.new.items ≡ entries.old.items) }
+{
+    match index_of(entries, birth) {
+        Some(index) => {
+            entries[index].1 = value;
+            Ok(())
+        }
+        None => {
+            let place = place_of(entries, birth);
+            entries.insert(place, (birth, value))?;
+            Ok(())
+        }
+    }
+}
