@@ -10,15 +10,23 @@
 //! does; where one is refused, a state that it was to change may be any state.
 #![tactic(auto)]
 
+mod census;
 mod entries;
+mod graph;
+mod lines;
 mod note;
 mod object;
+mod print;
 mod registration;
 mod state;
+mod text;
 mod value;
 
+pub use census::push_census;
+pub use lines::{push_check, push_generation_of, push_walk};
 pub use note::Note;
 pub use object::Object;
+pub use print::push_print;
 pub use registration::Registration;
 pub use state::State;
 pub use value::Value;

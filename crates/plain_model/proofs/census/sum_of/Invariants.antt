@@ -1,0 +1,10 @@
+use Rattle.std.proofs.Common.{◌≡◌, ◌++◌, ◌∷◌, take, map, fold, filter, flat_map, sum, ◌≤◌, ◌^◌, ◌-◌, ◌*◌}
+use Rattle.trace_types.specs.Values.{objects_in, object_at, size_of}
+use Rattle.trace_types.specs.Rules.{has}
+use Rattle.trace_types.specs.Printing.{with_number, numbered, value_text, byte_text, object_line, of_generation}
+use Rattle.plain_model.specs.Plain.{meaning}
+use Rattle.plain_model.specs.Census.{generation_line}
+use Rattle.plain_model.proofs.census.sum_of.Given as goal
+
+abbrev pub invariant-loop-size : goal.invariant-loop-size
+invariant-loop-size l = (l.total ≡ sum (take l.size-index l.sizes)) × (l.total ≤ (2 ^ 64 - 1) * l.size-index)
