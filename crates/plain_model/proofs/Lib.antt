@@ -1,3 +1,4 @@
 pub mod Placing
 pub mod States
 pub mod Printing
+pub mod Parts

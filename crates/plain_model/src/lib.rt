@@ -12,13 +12,20 @@
 
 mod census;
 mod entries;
+mod fields;
 mod graph;
+mod guarding;
 mod lines;
+mod locks;
+mod lookups;
+mod making;
 mod note;
 mod object;
 mod print;
 mod registration;
 mod state;
+mod stop;
+mod tables;
 mod text;
 mod value;
 
@@ -29,4 +36,5 @@ pub use object::Object;
 pub use print::push_print;
 pub use registration::Registration;
 pub use state::State;
+pub use stop::Stop;
 pub use value::Value;

@@ -1,0 +1,108 @@
+// The commands that make an object.
+ghost use Rattle.std.specs.Prelude.{◌≡◌, ◌∷◌, [], OnOk, IfOk, map, replicate};
+ghost use Rattle.trace_types.specs.States.{with_new, operand_value, silently};
+ghost use Rattle.trace_types.specs.Steps.{greatest_length, not_too_long};
+ghost use Rattle.plain_model.specs.Plain.{meaning};
+ghost use Rattle.plain_model.specs.Stepping.{Performs};
+
+use crate::state::State;
+use crate::stop::Stop;
+use crate::value::Value;
+use std::alloc::{AllocError, Global};
+use trace_types::{Fault, Kind, Operand, Register};
+
+fn two(alloc: Global, first: Value, second: Value) -> Result<Vec<Value>, AllocError>
+    ensures { IfOk result (λ v. v.items ≡ first ∷ second ∷ []) }
+{
+    let mut fields = Vec::new(alloc);
+    fields.push(first)?;
+    fields.push(second)?;
+    Ok(fields)
+}
+
+fn one(alloc: Global, first: Value) -> Result<Vec<Value>, AllocError>
+    ensures { IfOk result (λ v. v.items ≡ first ∷ []) }
+{
+    let mut fields = Vec::new(alloc);
+    fields.push(first)?;
+    Ok(fields)
+}
+
+fn copies(alloc: Global, value: Value, count: usize) -> Result<Vec<Value>, AllocError>
+    ensures { IfOk result (λ v. v.items ≡ replicate count value) }
+{
+    vec![in alloc; value; count]
+}
+
+impl State {
+    /// Makes an object with two fields.
+    pub(crate) fn make_pair(
+        &mut self,
+        alloc: Global,
+        line: u32,
+        d: Register,
+        kind: Kind,
+        first: Operand,
+        second: Operand,
+    ) -> Result<(), AllocError>
+        ensures { OnOk result (self.new ≡ with_new self.old line d kind (operand_value self.old first ∷ operand_value self.old second ∷ [])) }
+    {
+        let fields = two(alloc, self.operand_value(first), self.operand_value(second))?;
+        self.with_new(alloc, line, d, kind, fields)
+    }
+
+    /// Makes a box.
+    pub(crate) fn make_box(
+        &mut self,
+        alloc: Global,
+        line: u32,
+        d: Register,
+        value: Operand,
+    ) -> Result<(), AllocError>
+        ensures { OnOk result (self.new ≡ with_new self.old line d Kind.Boxed (operand_value self.old value ∷ [])) }
+    {
+        let fields = one(alloc, self.operand_value(value))?;
+        self.with_new(alloc, line, d, Kind::Boxed, fields)
+    }
+
+    /// Makes a guardian.
+    pub(crate) fn make_guardian(
+        &mut self,
+        alloc: Global,
+        line: u32,
+        d: Register,
+        kind: Kind,
+    ) -> Result<(), AllocError>
+        ensures { OnOk result (self.new ≡ with_new self.old line d kind []) }
+    {
+        self.with_new(alloc, line, d, kind, Vec::new(alloc))
+    }
+
+    /// The most fields or bytes of a new object.
+    fn greatest_length(&self) -> u32
+        ensures { result ≡ greatest_length self.now }
+    {
+        if self.version == 2 { 4_000_000 } else { 1_000_000 }
+    }
+
+    /// Makes an object of so many equal fields.
+    pub(crate) fn make_copies(
+        &mut self,
+        alloc: Global,
+        line: u32,
+        d: Register,
+        kind: Kind,
+        count: u32,
+        value: Value,
+    ) -> Result<(), Stop>
+        ensures { Performs (not_too_long self.old count (silently (with_new self.old line d kind (replicate count (meaning value)))))
+            result self.old self.new }
+    {
+        if count > self.greatest_length() {
+            return Err(Stop::Fault(Fault::BadLength));
+        }
+        let fields = copies(alloc, value, count as usize)?;
+        self.with_new(alloc, line, d, kind, fields)?;
+        Ok(())
+    }
+}
