@@ -1,2 +1,3 @@
+pub mod Concluding
 pub mod Placing
 pub mod States

@@ -10,15 +10,21 @@
 //! does; where one is refused, a state that it was to change may be any state.
 #![tactic(auto)]
 
+mod births;
 mod entries;
 mod note;
 mod object;
 mod registration;
+mod rounds;
+mod rule;
 mod state;
 mod value;
 
+pub use births::Births;
 pub use note::Note;
 pub use object::Object;
 pub use registration::Registration;
+pub use rounds::least;
+pub use rule::Rule;
 pub use state::State;
 pub use value::Value;
