@@ -1,3 +1,4 @@
+pub mod Concluding
 pub mod Placing
 pub mod States
 pub mod Printing

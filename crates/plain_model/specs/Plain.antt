@@ -1,7 +1,8 @@
 -- What the plain values and notes of the program mean.
-use Rattle.std.specs.Prelude.{◌≡◌, ℕ, suc, ◌<◌, nat_lt, List, [], ◌∷◌, length, slice_index_or, Some, if◌then◌else◌}
+use Rattle.std.specs.Prelude.{◌≡◌, ℕ, suc, ◌<◌, Bool, false, All, IsTrue, nat_lt, List, [], ◌∷◌, length, slice_index_or, Some, if◌then◌else◌}
 use Rattle.std.specs.FinMap.{find}
 use Rattle.std.specs.Ordering.{nat_cmp}
+use Rattle.trace_types.specs.Rules.{Rule, has, has_premises, MeetsAll, ◌⊆◌}
 use Rattle.trace_types.specs.Values as values
 use Rattle.trace_types.specs.States as states
 use Rattle.plain_model.specs.declared.value.Value.{Value}
@@ -38,3 +39,15 @@ module _ {X : Type 0} where
   abbrev pub HasEntry : List (ℕ × X) → ℕ → ℕ → Type 0
   HasEntry entries i birth =
       (i < length entries) × ((e : ℕ × X) → (slice_index_or entries i e).0 ≡ birth) × ((e : ℕ × X) → find nat_cmp birth entries ≡ Some (slice_index_or entries i e).1)
+
+-- the two sets have the same members
+abbrev pub Alike : List ℕ → List ℕ → Type 0
+Alike s t = (x : ℕ) → has s x ≡ has t x
+
+-- What a set became by going over the first of some rules: it grew, it has what these rules conclude from what was there
+-- before, it is in each set that meets all rules and had what was there before, and where nothing was added it is the same.
+pub record IsRound (old new : List ℕ) (added : Bool) (first all : List Rule) : Type 0 where
+  pub grows : old ⊆ new
+  pub concludes : All (λ r. IsTrue (has_premises old r) → IsTrue (has new r.conclusion)) first
+  pub below_each : (other : List ℕ) → MeetsAll other all → old ⊆ other → new ⊆ other
+  pub same : added ≡ false → new ≡ old

@@ -10,6 +10,7 @@
 //! does; where one is refused, a state that it was to change may be any state.
 #![tactic(auto)]
 
+mod births;
 mod census;
 mod entries;
 mod fields;
@@ -23,18 +24,23 @@ mod note;
 mod object;
 mod print;
 mod registration;
+mod rounds;
+mod rule;
 mod state;
 mod stop;
 mod tables;
 mod text;
 mod value;
 
+pub use births::Births;
 pub use census::push_census;
 pub use lines::{push_check, push_generation_of, push_walk};
 pub use note::Note;
 pub use object::Object;
 pub use print::push_print;
 pub use registration::Registration;
+pub use rounds::least;
+pub use rule::Rule;
 pub use state::State;
 pub use stop::Stop;
 pub use value::Value;
