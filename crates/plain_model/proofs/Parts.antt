@@ -1,14 +1,18 @@
 -- Changes of a part of a state, and slots of a table.
-use Rattle.std.proofs.Common.{◌≡◌, ℕ, List, [], ◌∷◌, ◌+◌, cond, not, map, length, get_or, position, set, nat_cmp, IsTrue, Bool, Some, refl, ap, ◌∙◌}
+use Rattle.std.proofs.Common.{◌≡◌, ℕ, List, [], ◌∷◌, ◌+◌, zero, suc, ◌<◌, true, false, ◌==◌, cond, not, map, length, get_or, position, replicate, set, nat_cmp, IsTrue, Bool, Option, Some, refl, sym, ap, subst, ◌∙◌, arith}
 use Rattle.std.specs.FinMap.{is_sorted}
-use Rattle.std.specs.List.{position_or_len}
+use Rattle.std.specs.FinMap.{find}
+use Rattle.std.specs.List.{position_or_len, AllByRecursion}
 use Rattle.std.proofs.lemmas.List.{length-map}
+use Rattle.std.proofs.lemmas.List.Elements.{recursion_from_All}
 use Rattle.trace_types.specs.Values as values
 use Rattle.trace_types.specs.States as states
-use Rattle.plain_model.specs.Plain.{HasEntry}
+use Rattle.plain_model.specs.Plain.{meaning, HasEntry}
+use Rattle.plain_model.specs.Stepping.{CountsBelow}
+use Rattle.plain_model.specs.declared.value.Value.{Value}
 use Rattle.plain_model.specs.declared.state.State.TheInside.{Inside}
 use Rattle.plain_model.specs.contracts.state.State.{the_view}
-use Rattle.plain_model.proofs.States.{put_again}
+use Rattle.plain_model.proofs.Placing.{put_again, find_first}
 
 -- another object in the place of one
 pub object_written : (change : values.Object → values.Object) (s : Inside) (i birth : ℕ) (old : ℕ × values.Object) (new o : values.Object)
@@ -26,4 +30,24 @@ module _ {X Y : Type 0} (p : Y → Bool) (f : X → Y) where
   first_passing (x ∷ xs) = ap (λ n. cond (not (p (f x))) (1 + n) 0) (first_passing xs)
 
   pub position-map : (xs : List X) → position p (map f xs) ≡ position (λ x. p (f x)) xs
-  position-map xs = rw (first_passing xs, length-map f xs) refl
+  position-map xs = rw (first_passing xs, length-map) refl
+
+-- so many of a value mean so many of what it means
+pub copies_mean : (n : ℕ) (v : Value) → map meaning (replicate n v) ≡ replicate n (meaning v)
+copies_mean zero v = refl
+copies_mean (suc n) v = ap (λ (rest : List values.Value). meaning v ∷ rest) (copies_mean n v)
+
+found_below : (n : ℕ) → 0 < n → (es : List (ℕ × ℕ)) → AllByRecursion (λ e. e.1 < n) es → (x : ℕ) → states.or_zero (find nat_cmp x es) < n
+found_below n some [] all x = some
+found_below n some (e ∷ es) all x =
+    subst (λ (o : Option ℕ). states.or_zero o < n) (sym (find_first x e es))
+    (elim (x == e.0) as (λ b. states.or_zero (cond b (Some e.1) (find nat_cmp x es)) < n) [
+      | true ↦ all.0
+      | false ↦ found_below n some es all.1 x
+    ])
+
+-- so is each lock count
+pub count_below : (n : ℕ) (s : states.State) (x : ℕ) → CountsBelow n s → states.lock_count s x < n
+count_below n s x counts =
+    let collects = counts.collects in
+    found_below n (omega arith) s.locks (recursion_from_All (λ e. e.1 < n) s.locks counts.locks) x

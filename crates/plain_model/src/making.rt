@@ -28,8 +28,9 @@ fn one(alloc: Global, first: Value) -> Result<Vec<Value>, AllocError>
     Ok(fields)
 }
 
+#[tactic(auto, using(crate::proofs::Parts::copies_mean))]
 fn copies(alloc: Global, value: Value, count: usize) -> Result<Vec<Value>, AllocError>
-    ensures { IfOk result (λ v. v.items ≡ replicate count value) }
+    ensures { IfOk result (λ v. map meaning v.items ≡ replicate count (meaning value)) }
 {
     vec![in alloc; value; count]
 }
