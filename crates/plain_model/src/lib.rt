@@ -12,19 +12,24 @@
 
 mod births;
 mod entries;
+mod kinds;
 mod note;
 mod object;
 mod registration;
 mod rounds;
 mod rule;
 mod state;
+mod state_rules;
 mod value;
 
 pub use births::Births;
+pub use kinds::{
+    has_bytes, is_ephemeron, is_guardian, is_immobile, is_ordered_kind, is_unordered_kind,
+};
 pub use note::Note;
 pub use object::Object;
 pub use registration::Registration;
 pub use rounds::least;
-pub use rule::Rule;
+pub use rule::{Rule, push_facts, push_object, push_objects, push_rule_to, push_rules_to};
 pub use state::State;
 pub use value::Value;
