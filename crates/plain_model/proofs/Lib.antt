@@ -3,3 +3,5 @@ pub mod Placing
 pub mod States
 pub mod Printing
 pub mod Parts
+pub mod Walking
+pub mod Counts

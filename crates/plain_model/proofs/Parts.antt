@@ -1,12 +1,14 @@
 -- Changes of a part of a state, and slots of a table.
-use Rattle.std.proofs.Common.{◌≡◌, ℕ, List, [], ◌∷◌, ◌+◌, zero, suc, ◌<◌, true, false, ◌==◌, cond, not, map, length, get_or, position, replicate, set, nat_cmp, IsTrue, Bool, Option, Some, refl, sym, ap, subst, ◌∙◌, arith}
-use Rattle.std.specs.FinMap.{is_sorted}
+use Rattle.std.proofs.Common.{◌≡◌, ℕ, List, [], ◌∷◌, ◌+◌, zero, suc, ◌<◌, true, false, ◌==◌, cond, not, map, length, get_or, position, replicate, set, nat_cmp, IsTrue, Bool, Option, Some, None, refl, sym, ap, subst, ◌∙◌, arith}
+use Rattle.std.specs.FinMap.{is_sorted, put}
 use Rattle.std.specs.FinMap.{find}
 use Rattle.std.specs.List.{position_or_len, AllByRecursion}
 use Rattle.std.proofs.lemmas.List.{length-map}
 use Rattle.std.proofs.lemmas.List.Elements.{recursion_from_All}
 use Rattle.trace_types.specs.Values as values
 use Rattle.trace_types.specs.States as states
+use Rattle.trace_types.proofs.Graphs.{object_at-put}
+use Rattle.std.proofs.lemmas.Bool.{eqb-true}
 use Rattle.plain_model.specs.Plain.{meaning, HasEntry}
 use Rattle.plain_model.specs.Stepping.{CountsBelow}
 use Rattle.plain_model.specs.declared.value.Value.{Value}
@@ -51,3 +53,16 @@ pub count_below : (n : ℕ) (s : states.State) (x : ℕ) → CountsBelow n s →
 count_below n s x counts =
     let collects = counts.collects in
     found_below n (omega arith) s.locks (recursion_from_All (λ e. e.1 < n) s.locks counts.locks) x
+
+-- an object that was there is there beside a new one
+pub still_there : (graph : values.Graph) (line x : ℕ) (new o : values.Object) → ◌≡◌ {A = Option values.Object} (values.object_at graph line) None
+    → values.object_at graph x ≡ Some o → values.object_at (put nat_cmp line new graph) x ≡ Some o
+still_there graph line x new o none there =
+    object_at-put graph line new x
+    ∙ elim (x == line) as (λ b. (x == line) ≡ b → cond b (Some new) (values.object_at graph x) ≡ Some o) [
+      | true ↦ λ same. absurd (not_both (values.object_at graph x) there (ap (values.object_at graph) (eqb-true x line same) ∙ none))
+      | false ↦ λ _. there
+    ] refl
+  where
+    not_both : (found : Option values.Object) → found ≡ Some o → found ≡ None → ⊥
+    not_both found some none = cc

@@ -4,7 +4,7 @@ use Rattle.std.specs.FinMap.{is_sorted}
 use Rattle.std.proofs.lemmas.List.{map-set}
 use Rattle.trace_types.specs.Values as values
 use Rattle.trace_types.specs.States as states
-use Rattle.plain_model.specs.Plain.{meaning, note_meaning, HasEntry}
+use Rattle.plain_model.specs.Plain.{meaning, queued, note_meaning, HasEntry}
 use Rattle.plain_model.specs.declared.value.Value.{Value}
 use Rattle.plain_model.specs.declared.value.Value.TheVariants.{Nil}
 use Rattle.plain_model.specs.declared.note.Note.TheVariants.{Empty}
@@ -57,3 +57,8 @@ field_written s i birth index v old new o sorted has is changed found =
     ap (λ (g : values.Graph). record (the_view s) { graph = g }) (put_again s.graph.items i birth new old sorted has is)
     ∙ ap (λ (x : values.Object). states.with_object (the_view s) birth x)
     (changed ∙ ap (λ (x : values.Object). record x { fields = set x.fields index (meaning v) }) same)
+
+-- the values of a queue
+pub queue_seen : (queue : List (Value × ℕ)) → map (λ entry. meaning entry.0) queue ≡ map (λ (entry : values.Value × ℕ). entry.0) (map queued queue)
+queue_seen [] = refl
+queue_seen (entry ∷ queue) = ap (λ (rest : List values.Value). meaning entry.0 ∷ rest) (queue_seen queue)

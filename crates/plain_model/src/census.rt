@@ -5,7 +5,7 @@ ghost use Rattle.trace_types.specs.Rules.{has};
 ghost use Rattle.trace_types.specs.Printing.{of_generation, words_of, census_text, size_text};
 ghost use Rattle.plain_model.specs.Census.{generation_line};
 
-use crate::graph::has;
+use crate::births::Births;
 use crate::object::Object;
 use crate::state::State;
 use crate::text::{push_generation, push_number, push_word};
@@ -110,12 +110,12 @@ fn sizes_in(alloc: Global, graph: &[(u32, Object)], generation: u8) -> Result<Ve
 }
 
 /// The sizes of the objects of a set of births.
-pub(crate) fn sizes_among(alloc: Global, graph: &[(u32, Object)], set: &[u32]) -> Result<Vec<u64>, AllocError>
+pub(crate) fn sizes_among(alloc: Global, graph: &[(u32, Object)], set: &Births) -> Result<Vec<u64>, AllocError>
     ensures { IfOk result (λ sizes. sizes.items ≡ map (λ entry. size_of entry.1.kind entry.1.fields) (filter (λ entry. has set.now entry.0) graph.now)) }
 {
     let mut sizes = Vec::new(alloc);
     for (birth, object) in graph {
-        if has(set, *birth) {
+        if set.contains(*birth) {
             sizes.push(object.size())?;
         }
     }

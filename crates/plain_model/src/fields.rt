@@ -1,16 +1,16 @@
 // The commands on registers and fields.
 ghost use Rattle.std.specs.Prelude.{◌≡◌, ◌<◌, ◌≤◌, MatchOption, length};
-ghost use Rattle.trace_types.specs.States.{with_register, operand_value};
 ghost use Rattle.trace_types.specs.Values.{field_at};
 ghost use Rattle.trace_types.specs.Steps.{step};
 ghost use Rattle.plain_model.specs.Plain.{meaning};
-ghost use Rattle.plain_model.specs.Stepping.{Performs};
+ghost use Rattle.plain_model.specs.Stepping.{Answers};
 
-use crate::graph::has_bytes;
+use crate::kinds::has_bytes;
 use crate::object::Object;
 use crate::state::State;
 use crate::stop::Stop;
 use crate::value::Value;
+use std::alloc::Global;
 use trace_types::{Command, Fault, Operand, Register};
 
 impl Object {
@@ -29,22 +29,24 @@ impl Object {
 
 impl State {
     /// `mov`.
-    pub(crate) fn mov(&mut self, d: Register, value: Operand)
-        ensures { self.new ≡ with_register self.old d (operand_value self.old value) }
+    #[tactic(auto, unfolding(trace_types::specs::Steps::step))]
+    pub(crate) fn mov(&mut self, alloc: Global, d: Register, value: Operand) -> Result<Vec<u8>, Stop>
+        ensures { Answers (step self.old 0 (Command.Mov d value)) result self.old self.new }
     {
         self.with_register(d, self.operand_value(value));
+        Ok(Vec::new(alloc))
     }
 
     /// `get`.
     #[tactic(auto, unfolding(trace_types::specs::Steps::step))]
-    pub(crate) fn get(&mut self, d: Register, from: Register, index: u32) -> Result<(), Stop>
-        ensures { Performs (step self.old 0 (Command.Get d from index)) result self.old self.new }
+    pub(crate) fn get(&mut self, alloc: Global, d: Register, from: Register, index: u32) -> Result<Vec<u8>, Stop>
+        ensures { Answers (step self.old 0 (Command.Get d from index)) result self.old self.new }
     {
         let (_, object) = self.fielded_of(self.register_value(from))?;
         match object.field(index) {
             Some(value) => {
                 self.with_register(d, value);
-                Ok(())
+                Ok(Vec::new(alloc))
             }
             None => Err(Stop::Fault(Fault::BadIndex)),
         }
@@ -52,8 +54,8 @@ impl State {
 
     /// `set`.
     #[tactic(auto, unfolding(trace_types::specs::Steps::step))]
-    pub(crate) fn set(&mut self, into: Register, index: u32, value: Operand) -> Result<(), Stop>
-        ensures { Performs (step self.old 0 (Command.Set into index value)) result self.old self.new }
+    pub(crate) fn set(&mut self, alloc: Global, into: Register, index: u32, value: Operand) -> Result<Vec<u8>, Stop>
+        ensures { Answers (step self.old 0 (Command.Set into index value)) result self.old self.new }
     {
         let value = self.operand_value(value);
         let (birth, object) = self.fielded_of(self.register_value(into))?;
@@ -62,8 +64,8 @@ impl State {
         }
         match object.field(index) {
             Some(_) => {
-                self.with_field(birth, index, value);
-                Ok(())
+                self.with_field(birth, index as usize, value);
+                Ok(Vec::new(alloc))
             }
             None => Err(Stop::Fault(Fault::BadIndex)),
         }

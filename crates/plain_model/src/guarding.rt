@@ -4,7 +4,7 @@ ghost use Rattle.trace_types.specs.States as states;
 ghost use Rattle.trace_types.specs.Values as values;
 ghost use Rattle.trace_types.specs.Steps.{step, or_itself, with_registration};
 ghost use Rattle.plain_model.specs.Plain.{meaning};
-ghost use Rattle.plain_model.specs.Stepping.{Performs};
+ghost use Rattle.plain_model.specs.Stepping.{Answers};
 
 use crate::entries::index_of;
 use crate::object::Object;
@@ -12,7 +12,7 @@ use crate::registration::Registration;
 use crate::state::State;
 use crate::stop::Stop;
 use crate::value::Value;
-use std::alloc::AllocError;
+use std::alloc::{AllocError, Global};
 use trace_types::{Command, Operand, Register};
 
 impl Object {
@@ -72,12 +72,13 @@ impl State {
     #[tactic(auto, unfolding(trace_types::specs::Steps::step))]
     pub(crate) fn register(
         &mut self,
+        alloc: Global,
         line: u32,
         guardian: Register,
         object: Operand,
         representative: Option<Operand>,
-    ) -> Result<(), Stop>
-        ensures { Performs (step self.old line (Command.Reg guardian object representative)) result self.old self.new }
+    ) -> Result<Vec<u8>, Stop>
+        ensures { Answers (step self.old line (Command.Reg guardian object representative)) result self.old self.new }
     {
         let value = self.operand_value(object);
         let (birth, _) = self.guardian_of(self.register_value(guardian))?;
@@ -88,22 +89,25 @@ impl State {
             representative: self.or_itself(value, representative),
         };
         self.with_registration(registration)?;
-        Ok(())
+        Ok(Vec::new(alloc))
     }
 
     /// `take`.
     #[tactic(auto, unfolding(trace_types::specs::Steps::step))]
-    pub(crate) fn take(&mut self, d: Register, guardian: Register) -> Result<(), Stop>
-        ensures { Performs (step self.old 0 (Command.Take d guardian)) result self.old self.new }
+    pub(crate) fn take(&mut self, alloc: Global, d: Register, guardian: Register) -> Result<Vec<u8>, Stop>
+        ensures { Answers (step self.old 0 (Command.Take d guardian)) result self.old self.new }
     {
         let (birth, object) = self.guardian_of(self.register_value(guardian))?;
         match object.first_queued() {
-            None => self.with_register(d, Value::False),
+            None => {
+                self.with_register(d, Value::False);
+                Ok(Vec::new(alloc))
+            }
             Some((value, _)) => {
                 self.drop_first(birth);
                 self.with_register(d, value);
+                Ok(Vec::new(alloc))
             }
         }
-        Ok(())
     }
 }

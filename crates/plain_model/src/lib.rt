@@ -14,8 +14,10 @@ mod births;
 mod census;
 mod entries;
 mod fields;
+mod finder;
 mod graph;
 mod guarding;
+mod kinds;
 mod lines;
 mod locks;
 mod lookups;
@@ -27,6 +29,8 @@ mod registration;
 mod rounds;
 mod rule;
 mod state;
+mod state_rules;
+mod step;
 mod stop;
 mod tables;
 mod text;
@@ -34,13 +38,16 @@ mod value;
 
 pub use births::Births;
 pub use census::push_census;
-pub use lines::{push_check, push_generation_of, push_walk};
+pub use kinds::{
+    has_bytes, is_ephemeron, is_guardian, is_immobile, is_ordered_kind, is_unordered_kind,
+};
+pub use lines::{push_check, push_generation_of, push_path};
 pub use note::Note;
 pub use object::Object;
 pub use print::push_print;
 pub use registration::Registration;
 pub use rounds::least;
-pub use rule::Rule;
+pub use rule::{Rule, push_facts, push_object, push_objects, push_rule_to, push_rules_to};
 pub use state::State;
 pub use stop::Stop;
 pub use value::Value;

@@ -1,5 +1,5 @@
 // The texts of a single line.
-ghost use Rattle.std.specs.Prelude.{◌≡◌, ◌++◌, ◌∷◌, [], Some, OnOk, flat_map, codes, decimal};
+ghost use Rattle.std.specs.Prelude.{◌≡◌, ◌++◌, OnOk, option_map, flat_map, codes, decimal};
 ghost use Rattle.trace_types.specs.Values.{object_of_value};
 ghost use Rattle.trace_types.specs.Printing.{generation_text, check_text, path_text};
 ghost use Rattle.plain_model.specs.Plain.{meaning};
@@ -32,13 +32,18 @@ pub fn push_check(k: u8, word: &[u8], text: &mut Vec<u8>) -> Result<(), AllocErr
     push_word(text, b"\n")
 }
 
-/// Appends the indexes of a walk.
-pub fn push_walk(walk: &[u64], text: &mut Vec<u8>) -> Result<(), AllocError>
-    ensures { OnOk result (text.new.items ≡ text.old.items ++ path_text (Some walk.now)) }
+/// Appends the indexes of a walk, or `none` where there is no walk.
+pub fn push_path(walk: Option<Vec<u64>>, text: &mut Vec<u8>) -> Result<(), AllocError>
+    ensures { OnOk result (text.new.items ≡ text.old.items ++ path_text (option_map (λ w. w.items) walk)) }
 {
-    push_word(text, b"path")?;
-    push_indexes(walk, text)?;
-    push_word(text, b"\n")
+    match walk {
+        Some(walk) => {
+            push_word(text, b"path")?;
+            push_indexes(&walk, text)?;
+            push_word(text, b"\n")
+        }
+        None => push_word(text, b"path none\n"),
+    }
 }
 
 fn push_indexes(walk: &[u64], text: &mut Vec<u8>) -> Result<(), AllocError>

@@ -1,31 +1,21 @@
 // The commands on locks and notes.
-ghost use Rattle.std.specs.Prelude.{◌≡◌, not, ◌==◌, IsTrue, MatchResult, OnOk, IfOk, Ok, filter, set, slice_index_or};
+ghost use Rattle.std.specs.Prelude.{◌≡◌, not, ◌==◌, IsTrue, OnOk, IfOk, filter, set, slice_index_or};
 ghost use Rattle.std.specs.FinMap.{is_sorted};
 ghost use Rattle.std.specs.Ordering.{nat_cmp};
-ghost use Rattle.trace_types.specs.Values as values;
 ghost use Rattle.trace_types.specs.States as states;
 ghost use Rattle.trace_types.specs.Steps.{step, with_lock_count, is_same_object};
 ghost use Rattle.plain_model.specs.Plain.{meaning, note_meaning};
-ghost use Rattle.plain_model.specs.Stepping.{Performs, Refuses, CountsBelow};
+ghost use Rattle.plain_model.specs.Stepping.{Answers, CountsBelow};
 
 use crate::entries::put_entry;
+use crate::kinds::is_immobile;
 use crate::lines::push_check;
 use crate::note::Note;
 use crate::state::State;
 use crate::stop::Stop;
 use crate::value::Value;
 use std::alloc::{AllocError, Global};
-use trace_types::{Command, Fault, Kind, Operand, Register};
-
-// Whether no collection moves the kind.
-fn is_immobile(kind: Kind) -> bool
-    ensures { result ≡ values.is_immobile kind }
-{
-    match kind {
-        Kind::ImmVector | Kind::ImmBytes => true,
-        _ => false,
-    }
-}
+use trace_types::{Command, Fault, Operand, Register};
 
 // The locks but for the one of this birth.
 fn without(alloc: Global, locks: &[(u32, u32)], birth: u32) -> Result<Vec<(u32, u32)>, AllocError>
@@ -82,22 +72,22 @@ impl State {
 
     /// `lock`.
     #[tactic(auto, unfolding(trace_types::specs::Steps::step))]
-    pub(crate) fn lock(&mut self, alloc: Global, line: u32, value: Operand) -> Result<(), Stop>
+    pub(crate) fn lock(&mut self, alloc: Global, line: u32, value: Operand) -> Result<Vec<u8>, Stop>
         requires sorted { IsTrue (is_sorted nat_cmp self.old.locks) }
         requires counts { CountsBelow line self.old }
-        ensures { Performs (step self.old line (Command.Lock value)) result self.old self.new }
+        ensures { Answers (step self.old line (Command.Lock value)) result self.old self.new }
     {
         let (birth, _) = self.object_of(self.operand_value(value))?;
         let count = self.lock_count(birth);
         self.with_lock_count(alloc, birth, count + 1)?;
-        Ok(())
+        Ok(Vec::new(alloc))
     }
 
     /// `unlock`.
     #[tactic(auto, unfolding(trace_types::specs::Steps::step))]
-    pub(crate) fn unlock(&mut self, alloc: Global, value: Operand) -> Result<(), Stop>
+    pub(crate) fn unlock(&mut self, alloc: Global, value: Operand) -> Result<Vec<u8>, Stop>
         requires { IsTrue (is_sorted nat_cmp self.old.locks) }
-        ensures { Performs (step self.old 0 (Command.Unlock value)) result self.old self.new }
+        ensures { Answers (step self.old 0 (Command.Unlock value)) result self.old self.new }
     {
         let (birth, _) = self.object_of(self.operand_value(value))?;
         let count = self.lock_count(birth);
@@ -105,18 +95,18 @@ impl State {
             return Err(Stop::Fault(Fault::NotLocked));
         }
         self.with_lock_count(alloc, birth, count - 1)?;
-        Ok(())
+        Ok(Vec::new(alloc))
     }
 
     /// `note`.
     #[tactic(auto, unfolding(trace_types::specs::Steps::step))]
-    pub(crate) fn note(&mut self, k: u8, r: Register) -> Result<(), Stop>
-        ensures { Performs (step self.old 0 (Command.Note k r)) result self.old self.new }
+    pub(crate) fn note(&mut self, alloc: Global, k: u8, r: Register) -> Result<Vec<u8>, Stop>
+        ensures { Answers (step self.old 0 (Command.Note k r)) result self.old self.new }
     {
         let (birth, object) = self.object_of(self.register_value(r))?;
         if is_immobile(object.kind) || self.lock_count(birth) > 0 {
             self.with_note(k, birth);
-            Ok(())
+            Ok(Vec::new(alloc))
         } else {
             Err(Stop::Fault(Fault::NotFixed))
         }
@@ -125,8 +115,7 @@ impl State {
     /// `check`: the text.
     #[tactic(auto, unfolding(trace_types::specs::Steps::step))]
     pub(crate) fn check(&self, alloc: Global, k: u8, r: Register) -> Result<Vec<u8>, Stop>
-        ensures { MatchResult result (λ text. step self.now 0 (Command.Check k r) ≡ Ok (self.now, text.items))
-            (λ stop. Refuses (step self.now 0 (Command.Check k r)) stop self.now self.now) }
+        ensures { Answers (step self.now 0 (Command.Check k r)) result self.now self.now }
     {
         let mut text = Vec::new(alloc);
         match self.note_at(k) {

@@ -1,11 +1,10 @@
 // What commands ask of their operands.
-ghost use Rattle.std.specs.Prelude.{◌≡◌, Ok, Err, MatchResult, MatchOption, Some, None};
+ghost use Rattle.std.specs.Prelude.{◌≡◌, Ok, Err, MatchResult};
 ghost use Rattle.trace_types.specs.Steps as steps;
-ghost use Rattle.trace_types.specs.Values as values;
 ghost use Rattle.trace_types.specs.Tables as tables;
 ghost use Rattle.plain_model.specs.Plain.{meaning};
 
-use crate::graph::is_guardian;
+use crate::kinds::is_guardian;
 use crate::object::Object;
 use crate::state::State;
 use crate::value::Value;
@@ -73,18 +72,5 @@ fn is_table(kind: Kind) -> bool
     match kind {
         Kind::Vector | Kind::ImmVector => true,
         _ => false,
-    }
-}
-
-impl Object {
-    /// A field by its index, or `nil` where there is none.
-    pub(crate) fn field_at(&self, index: usize) -> Value
-        ensures { meaning result ≡ values.field_at self.now index }
-    {
-        if index < self.fields.len() {
-            self.fields[index]
-        } else {
-            Value::Nil
-        }
     }
 }

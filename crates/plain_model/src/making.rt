@@ -1,9 +1,9 @@
 // The commands that make an object.
-ghost use Rattle.std.specs.Prelude.{◌≡◌, ◌∷◌, [], OnOk, IfOk, map, replicate};
+ghost use Rattle.std.specs.Prelude.{◌≡◌, ◌∷◌, [], IfOk, map, replicate};
 ghost use Rattle.trace_types.specs.States.{with_new, operand_value, silently};
 ghost use Rattle.trace_types.specs.Steps.{greatest_length, not_too_long};
 ghost use Rattle.plain_model.specs.Plain.{meaning};
-ghost use Rattle.plain_model.specs.Stepping.{Performs};
+ghost use Rattle.plain_model.specs.Stepping.{Answers};
 
 use crate::state::State;
 use crate::stop::Stop;
@@ -11,7 +11,7 @@ use crate::value::Value;
 use std::alloc::{AllocError, Global};
 use trace_types::{Fault, Kind, Operand, Register};
 
-fn two(alloc: Global, first: Value, second: Value) -> Result<Vec<Value>, AllocError>
+pub(crate) fn two(alloc: Global, first: Value, second: Value) -> Result<Vec<Value>, AllocError>
     ensures { IfOk result (λ v. v.items ≡ first ∷ second ∷ []) }
 {
     let mut fields = Vec::new(alloc);
@@ -45,11 +45,13 @@ impl State {
         kind: Kind,
         first: Operand,
         second: Operand,
-    ) -> Result<(), AllocError>
-        ensures { OnOk result (self.new ≡ with_new self.old line d kind (operand_value self.old first ∷ operand_value self.old second ∷ [])) }
+    ) -> Result<Vec<u8>, Stop>
+        ensures { Answers (silently (with_new self.old line d kind (operand_value self.old first ∷ operand_value self.old second ∷ [])))
+            result self.old self.new }
     {
         let fields = two(alloc, self.operand_value(first), self.operand_value(second))?;
-        self.with_new(alloc, line, d, kind, fields)
+        self.with_new(alloc, line, d, kind, fields)?;
+        Ok(Vec::new(alloc))
     }
 
     /// Makes a box.
@@ -59,11 +61,12 @@ impl State {
         line: u32,
         d: Register,
         value: Operand,
-    ) -> Result<(), AllocError>
-        ensures { OnOk result (self.new ≡ with_new self.old line d Kind.Boxed (operand_value self.old value ∷ [])) }
+    ) -> Result<Vec<u8>, Stop>
+        ensures { Answers (silently (with_new self.old line d Kind.Boxed (operand_value self.old value ∷ []))) result self.old self.new }
     {
         let fields = one(alloc, self.operand_value(value))?;
-        self.with_new(alloc, line, d, Kind::Boxed, fields)
+        self.with_new(alloc, line, d, Kind::Boxed, fields)?;
+        Ok(Vec::new(alloc))
     }
 
     /// Makes a guardian.
@@ -73,13 +76,14 @@ impl State {
         line: u32,
         d: Register,
         kind: Kind,
-    ) -> Result<(), AllocError>
-        ensures { OnOk result (self.new ≡ with_new self.old line d kind []) }
+    ) -> Result<Vec<u8>, Stop>
+        ensures { Answers (silently (with_new self.old line d kind [])) result self.old self.new }
     {
-        self.with_new(alloc, line, d, kind, Vec::new(alloc))
+        self.with_new(alloc, line, d, kind, Vec::new(alloc))?;
+        Ok(Vec::new(alloc))
     }
 
-    /// The most fields or bytes of a new object.
+    // The most fields or bytes of a new object.
     fn greatest_length(&self) -> u32
         ensures { result ≡ greatest_length self.now }
     {
@@ -95,8 +99,8 @@ impl State {
         kind: Kind,
         count: u32,
         value: Value,
-    ) -> Result<(), Stop>
-        ensures { Performs (not_too_long self.old count (silently (with_new self.old line d kind (replicate count (meaning value)))))
+    ) -> Result<Vec<u8>, Stop>
+        ensures { Answers (not_too_long self.old count (silently (with_new self.old line d kind (replicate count (meaning value)))))
             result self.old self.new }
     {
         if count > self.greatest_length() {
@@ -104,6 +108,6 @@ impl State {
         }
         let fields = copies(alloc, value, count as usize)?;
         self.with_new(alloc, line, d, kind, fields)?;
-        Ok(())
+        Ok(Vec::new(alloc))
     }
 }

@@ -7,7 +7,7 @@ ghost use Rattle.trace_types.specs.Printing.{object_line, print_text};
 ghost use Rattle.plain_model.specs.Plain.{meaning, queued};
 ghost use Rattle.plain_model.specs.Bytes.{are_bytes, HasBytes};
 
-use crate::graph::{has_bytes, is_guardian};
+use crate::kinds::{has_bytes, is_guardian};
 use crate::object::Object;
 use crate::state::State;
 use crate::text::{push_byte, push_generation, push_number, push_value, push_word};

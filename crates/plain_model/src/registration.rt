@@ -1,6 +1,11 @@
 //! Registrations with guardians.
 
+ghost use Rattle.std.specs.Prelude.{◌≡◌, ◌++◌, OnOk};
+ghost use Rattle.trace_types.specs.Kept.{registration_rules};
+
+use crate::rule::{Rule, push_object, push_rule_to};
 use crate::value::Value;
+use std::alloc::{AllocError, Global};
 use std::marker::Model;
 
 /// A registration: the line that made it, the guardian's birth, the object and its representative. (Dybvig,
@@ -26,4 +31,16 @@ impl Model for Registration {
       object = meaning r.object;
       representative = meaning r.representative;
     } };
+}
+
+impl Registration {
+    /// Appends the rule from the guardian, and the object where that is one, to the representative.
+    pub fn push_rules(&self, alloc: Global, rules: &mut Vec<Rule>) -> Result<(), AllocError>
+        ensures { OnOk result (rules.new.items ≡ rules.old.items ++ registration_rules self.now) }
+    {
+        let mut premises = Vec::from_slice(alloc, &[self.guardian])?;
+        push_object(self.object, &mut premises)?;
+        push_rule_to(alloc, self.representative, &premises, rules)?;
+        Ok(())
+    }
 }

@@ -151,7 +151,7 @@ impl State {
     }
 
     /// Puts a value into a field of the object of this birth.
-    pub fn with_field(&mut self, birth: u32, index: u32, value: Value)
+    pub fn with_field(&mut self, birth: u32, index: usize, value: Value)
         ensures { (o : values.Object) → values.object_at self.old.graph birth ≡ Some o → self.new ≡ states.with_field self.old birth o index (meaning value) }
     {
         match index_of(&self.graph, birth) {

@@ -1,11 +1,15 @@
 // The commands on identity tables.
-ghost use Rattle.std.specs.Prelude.{◌≡◌, ◌∷◌, [], position, Some, MatchResult, Ok, Err};
+ghost use Rattle.std.specs.Prelude.{◌≡◌, ◌∷◌, [], position, Option, Some, None, MatchResult, Ok, Err};
+ghost use Rattle.trace_types.specs.States.{silently, with_field, with_new};
+ghost use Rattle.trace_types.specs.Steps.{step};
+ghost use Rattle.trace_types.specs.Values.{object};
 ghost use Rattle.trace_types.specs.Values as values;
 ghost use Rattle.trace_types.specs.Tables as tables;
 ghost use Rattle.trace_types.specs.Steps as steps;
 ghost use Rattle.plain_model.specs.Plain.{meaning};
-ghost use Rattle.plain_model.specs.Stepping.{Performs};
+ghost use Rattle.plain_model.specs.Stepping.{Answers, entry_changed};
 
+use crate::making::two;
 use crate::object::Object;
 use crate::state::State;
 use crate::stop::Stop;
@@ -112,5 +116,116 @@ impl State {
         ensures { result ≡ tables.free_in self.now.graph table.now }
     {
         self.free_slot(&table.fields)
+    }
+
+    // The entry's value changes, and register d gets the entry.
+    fn put_found(&mut self, alloc: Global, d: Register, entry: Value, value: Value) -> Result<Vec<u8>, Stop>
+        ensures { Answers (entry_changed self.old d (meaning entry) (meaning value)) result self.old self.new }
+    {
+        let (birth, _) = self.object_of(entry)?;
+        self.with_field(birth, 1, value);
+        self.with_register(d, Value::Object(birth));
+        Ok(Vec::new(alloc))
+    }
+
+    // A new entry goes into a slot of the table and into register d.
+    fn put_new(
+        &mut self,
+        alloc: Global,
+        line: u32,
+        d: Register,
+        kind: Kind,
+        key: Value,
+        value: Value,
+        table: u32,
+        slot: usize,
+    ) -> Result<Vec<u8>, Stop>
+        requires { ◌≡◌ {A = Option values.Object} (values.object_at self.old.graph line) None }
+        ensures { (t : values.Object) → values.object_at self.old.graph table ≡ Some t →
+            Answers (silently (with_field (with_new self.old line d kind (meaning key ∷ meaning value ∷ [])) table t slot (object line)))
+            result self.old self.new }
+    {
+        let fields = two(alloc, key, value)?;
+        self.with_new(alloc, line, d, kind, fields)?;
+        self.with_field(table, slot, Value::Object(line));
+        Ok(Vec::new(alloc))
+    }
+
+    /// `tput`.
+    #[tactic(auto, unfolding(trace_types::specs::Steps::step))]
+    pub(crate) fn table_put(
+        &mut self,
+        alloc: Global,
+        line: u32,
+        d: Register,
+        table: Register,
+        mode: Mode,
+        key: Operand,
+        value: Operand,
+    ) -> Result<Vec<u8>, Stop>
+        requires { ◌≡◌ {A = Option values.Object} (values.object_at self.old.graph line) None }
+        ensures { Answers (step self.old line (Command.TablePut d table mode key value)) result self.old self.new }
+    {
+        let value = self.operand_value(value);
+        let (birth, object) = self.table_of(self.register_value(table))?;
+        let key = whole_key(self.operand_value(key))?;
+        match self.where_in(object, key) {
+            Some(slot) => {
+                let entry = object.field_at(slot);
+                self.put_found(alloc, d, entry, value)
+            }
+            None => match self.free_in(object) {
+                Some(slot) => self.put_new(alloc, line, d, entry_kind(mode), key, value, birth, slot),
+                None => Err(Stop::Fault(Fault::TableFull)),
+            },
+        }
+    }
+
+    // What the entry in the slot has, or `f`.
+    fn found_at(&self, table: &Object, slot: Option<usize>) -> Result<Value, Fault>
+        ensures { MatchResult result (λ v. steps.found_at self.now table.now slot ≡ Ok (meaning v))
+            (λ fault. steps.found_at self.now table.now slot ≡ Err fault) }
+    {
+        match slot {
+            Some(slot) => {
+                let (_, entry) = self.object_of(table.field_at(slot))?;
+                Ok(entry.field_at(1))
+            }
+            None => Ok(Value::False),
+        }
+    }
+
+    /// `tget`.
+    #[tactic(auto, unfolding(trace_types::specs::Steps::step))]
+    pub(crate) fn table_get(
+        &mut self,
+        alloc: Global,
+        d: Register,
+        table: Register,
+        key: Operand,
+    ) -> Result<Vec<u8>, Stop>
+        ensures { Answers (step self.old 0 (Command.TableGet d table key)) result self.old self.new }
+    {
+        let (_, object) = self.table_of(self.register_value(table))?;
+        let key = whole_key(self.operand_value(key))?;
+        let value = self.found_at(object, self.where_in(object, key))?;
+        self.with_register(d, value);
+        Ok(Vec::new(alloc))
+    }
+
+    /// `tdel`.
+    #[tactic(auto, unfolding(trace_types::specs::Steps::step))]
+    pub(crate) fn table_delete(&mut self, alloc: Global, table: Register, key: Operand) -> Result<Vec<u8>, Stop>
+        ensures { Answers (step self.old 0 (Command.TableDel table key)) result self.old self.new }
+    {
+        let (birth, object) = self.table_of(self.register_value(table))?;
+        let key = whole_key(self.operand_value(key))?;
+        match self.where_in(object, key) {
+            Some(slot) => {
+                self.with_field(birth, slot, Value::Nil);
+                Ok(Vec::new(alloc))
+            }
+            None => Ok(Vec::new(alloc)),
+        }
     }
 }
