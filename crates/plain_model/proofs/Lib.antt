@@ -1,3 +1,4 @@
 pub mod Concluding
+pub mod Phases
 pub mod Placing
 pub mod States

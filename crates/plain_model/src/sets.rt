@@ -1,11 +1,11 @@
 //! The four sets of a collection.
 
-ghost use Rattle.std.specs.Prelude.{◌≡◌, ◌∷◌, [], ◌++◌, ◌&&◌, map, flat_map, OnOk};
+ghost use Rattle.std.specs.Prelude.{◌≡◌, ◌∷◌, [], ◌++◌, ◌&&◌, map, flat_map, IfOk, OnOk};
 ghost use Rattle.trace_types.specs.Values.{objects_in};
 ghost use Rattle.trace_types.specs.Rules.{facts};
 ghost use Rattle.trace_types.specs.Kept as kept_of;
 ghost use Rattle.plain_model.specs.Plain.{Alike, meaning};
-ghost use Rattle.plain_model.specs.Reached.{IsAccessible, IsServed, IsWaitedFor, IsKept};
+ghost use Rattle.plain_model.specs.Reached.{IsAccessible, IsServed, IsWaitedFor, IsKept, kept_rules_with};
 
 use crate::births::Births;
 use crate::kinds::{is_ordered_kind, is_unordered_kind};
@@ -228,5 +228,64 @@ impl State {
             }
         }
         Ok(())
+    }
+
+    // The rules of what is kept, once the other sets are there.
+    fn kept_rules(&self, alloc: Global, sets: &Sets) -> Result<Vec<Rule>, AllocError>
+        requires { IsWaitedFor self.now sets.now }
+        ensures { IfOk result (λ rules. rules.items ≡ kept_rules_with self.now sets.now.cg sets.now.waited_for) }
+    {
+        let mut rules = self.rules(alloc)?;
+        self.push_served(alloc, sets, &mut rules)?;
+        push_facts(alloc, sets.waited_for.members(), &mut rules)?;
+        let mut ready = Vec::new(alloc);
+        self.push_ready(sets, &mut ready)?;
+        push_facts(alloc, &ready, &mut rules)?;
+        self.push_unready(alloc, sets, &mut rules)?;
+        Ok(rules)
+    }
+
+    // What is kept, once the other sets are there.
+    fn kept(&self, alloc: Global, sets: &Sets) -> Result<Births, AllocError>
+        requires { IsWaitedFor self.now sets.now }
+        ensures { IfOk result (λ set. Alike set (kept_of.kept self.now sets.now.cg)) }
+    {
+        let rules = self.kept_rules(alloc, sets)?;
+        let set = least(alloc, &rules)?;
+        Ok(set)
+    }
+
+    // A collection of generations up to cg that has not begun.
+    fn no_sets(&self, alloc: Global, cg: u8) -> Sets
+        ensures { result.cg ≡ cg }
+    {
+        Sets {
+            cg,
+            accessible: Births::new(alloc),
+            served: Births::new(alloc),
+            waited_for: Births::new(alloc),
+            kept: Births::new(alloc),
+        }
+    }
+
+    /// The four sets of a collection of generations up to cg.
+    #[tactic(auto, unfolding(trace_types::specs::Kept::accessible, trace_types::specs::Kept::accessible_or_served, trace_types::specs::Kept::waited_for))]
+    pub fn sets(&self, alloc: Global, cg: u8) -> Result<Sets, AllocError>
+        ensures cg { IfOk result (λ sets. sets.cg ≡ cg) }
+        ensures accessible { IfOk result (λ sets. Alike sets.accessible (kept_of.accessible self.now cg)) }
+        ensures served { IfOk result (λ sets. Alike sets.served (kept_of.accessible_or_served self.now cg)) }
+        ensures waited_for { IfOk result (λ sets. Alike sets.waited_for (kept_of.waited_for self.now cg)) }
+        ensures kept { IfOk result (λ sets. Alike sets.kept (kept_of.kept self.now cg)) }
+    {
+        let mut sets = self.no_sets(alloc, cg);
+        let mut rules = self.rules(alloc)?;
+        self.push_roots(alloc, cg, &mut rules)?;
+        sets.accessible = least(alloc, &rules)?;
+        self.push_served(alloc, &sets, &mut rules)?;
+        sets.served = least(alloc, &rules)?;
+        self.push_as_though(alloc, &sets, &mut rules)?;
+        sets.waited_for = least(alloc, &rules)?;
+        sets.kept = self.kept(alloc, &sets)?;
+        Ok(sets)
     }
 }
