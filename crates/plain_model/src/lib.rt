@@ -10,7 +10,9 @@
 //! does; where one is refused, a state that it was to change may be any state.
 #![tactic(auto)]
 
+mod arguments;
 mod births;
+mod collection;
 mod entries;
 mod kinds;
 mod note;
@@ -23,6 +25,7 @@ mod state;
 mod state_rules;
 mod value;
 
+pub use arguments::{Arguments, plain_arguments};
 pub use births::Births;
 pub use kinds::{
     has_bytes, is_ephemeron, is_guardian, is_immobile, is_ordered_kind, is_unordered_kind,
