@@ -1,5 +1,8 @@
+pub mod Collected
 pub mod Concluding
+pub mod Phases
 pub mod Placing
+pub mod Powers
 pub mod States
 pub mod Printing
 pub mod Parts

@@ -2,7 +2,10 @@
 
 ghost use Rattle.std.specs.Prelude.{◌≡◌, ℕ, ◌≤◌, ◌∷◌, ◌++◌, [], length, slice_index_or, false, OnOk};
 ghost use Rattle.trace_types.specs.Rules.{has};
+ghost use Rattle.trace_types.specs.Kept.{is_outside};
+ghost use Rattle.plain_model.specs.Plain.{meaning};
 
+use crate::value::Value;
 use std::alloc::{AllocError, Global};
 use std::marker::Model;
 
@@ -74,5 +77,15 @@ impl Births {
         ensures { result.now ≡ self.now }
     {
         &self.members
+    }
+
+    /// Whether the value is an object outside the set.
+    pub fn is_outside(&self, value: Value) -> bool
+        ensures { result ≡ is_outside self.now (meaning value) }
+    {
+        match value {
+            Value::Object(birth) => !self.contains(birth),
+            _ => false,
+        }
     }
 }

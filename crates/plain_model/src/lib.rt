@@ -10,8 +10,10 @@
 //! does; where one is refused, a state that it was to change may be any state.
 #![tactic(auto)]
 
+mod arguments;
 mod births;
 mod census;
+mod collection;
 mod entries;
 mod fields;
 mod finder;
@@ -28,6 +30,7 @@ mod print;
 mod registration;
 mod rounds;
 mod rule;
+mod sets;
 mod state;
 mod state_rules;
 mod step;
@@ -36,6 +39,7 @@ mod tables;
 mod text;
 mod value;
 
+pub use arguments::{Arguments, plain_arguments};
 pub use births::Births;
 pub use census::push_census;
 pub use kinds::{
@@ -48,6 +52,7 @@ pub use print::push_print;
 pub use registration::Registration;
 pub use rounds::least;
 pub use rule::{Rule, push_facts, push_object, push_objects, push_rule_to, push_rules_to};
+pub use sets::Sets;
 pub use state::State;
 pub use stop::Stop;
 pub use value::Value;

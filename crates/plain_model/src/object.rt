@@ -2,7 +2,7 @@
 
 ghost use Rattle.std.specs.Prelude.{◌≡◌, ◌++◌, map, set, IfOk, OnOk};
 ghost use Rattle.trace_types.specs.Values as values;
-ghost use Rattle.trace_types.specs.Kept.{strong_rules, ephemeron_rules, object_rules};
+ghost use Rattle.trace_types.specs.Kept.{strong_rules, ephemeron_rules, object_rules, without_premise};
 ghost use Rattle.plain_model.specs.Plain.{meaning};
 
 use crate::kinds::is_ephemeron;
@@ -151,6 +151,25 @@ impl Object {
     {
         self.push_strong_rules(alloc, birth, rules)?;
         self.push_ephemeron_rules(alloc, birth, rules)?;
+        Ok(())
+    }
+
+    /// Appends what would be asked of the object if it were in a set: its rules, with itself struck from their
+    /// premises.
+    pub fn push_rules_as_though(
+        &self,
+        alloc: Global,
+        birth: u32,
+        rules: &mut Vec<Rule>,
+    ) -> Result<(), AllocError>
+        ensures { OnOk result (rules.new.items ≡ rules.old.items ++ without_premise birth (object_rules birth self.now)) }
+    {
+        let mut own = Vec::new(alloc);
+        self.push_rules(alloc, birth, &mut own)?;
+        for rule in &own {
+            let struck = rule.without_premise(alloc, birth)?;
+            rules.push(struck)?;
+        }
         Ok(())
     }
 }

@@ -43,4 +43,16 @@ impl Registration {
         push_rule_to(alloc, self.representative, &premises, rules)?;
         Ok(())
     }
+
+    /// The same registration again.
+    pub fn copy(&self) -> Registration
+        ensures { result ≡ self.now }
+    {
+        Registration {
+            line: self.line,
+            guardian: self.guardian,
+            object: self.object,
+            representative: self.representative,
+        }
+    }
 }

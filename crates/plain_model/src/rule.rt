@@ -1,6 +1,6 @@
 //! Rules on objects.
 
-ghost use Rattle.std.specs.Prelude.{◌≡◌, ◌∷◌, ◌++◌, [], map, flat_map, OnOk};
+ghost use Rattle.std.specs.Prelude.{◌≡◌, ◌==◌, ◌∷◌, ◌++◌, [], not, map, filter, flat_map, IfOk, OnOk};
 ghost use Rattle.trace_types.specs.Values.{objects_in};
 ghost use Rattle.trace_types.specs.Rules.{has_premises, facts};
 ghost use Rattle.trace_types.specs.Kept.{rules_to};
@@ -32,6 +32,22 @@ impl Rule {
         ensures { result ≡ has_premises set.now self.now }
     {
         self.premises.iter().all(|x| set.contains(*x))
+    }
+
+    /// The rule with the object struck from its premises.
+    pub fn without_premise(&self, alloc: Global, birth: u32) -> Result<Rule, AllocError>
+        ensures { IfOk result (λ r. r ≡ record self.now { premises = filter (λ y. not (birth == y)) self.now.premises }) }
+    {
+        let mut premises = Vec::new(alloc);
+        for premise in &self.premises {
+            if birth != *premise {
+                premises.push(*premise)?;
+            }
+        }
+        Ok(Rule {
+            premises,
+            conclusion: self.conclusion,
+        })
     }
 }
 
