@@ -8,3 +8,4 @@ pub mod Printing
 pub mod Parts
 pub mod Walking
 pub mod Counts
+pub mod Lining

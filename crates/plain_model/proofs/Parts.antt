@@ -1,15 +1,20 @@
 -- Changes of a part of a state, and slots of a table.
-use Rattle.std.proofs.Common.{◌≡◌, ℕ, List, [], ◌∷◌, ◌+◌, zero, suc, ◌<◌, true, false, ◌==◌, cond, not, map, length, get_or, position, replicate, set, nat_cmp, IsTrue, Bool, Option, Some, None, refl, sym, ap, subst, ◌∙◌, arith}
+use Rattle.std.proofs.Common.{◌≡◌, ℕ, List, [], ◌∷◌, ◌+◌, zero, suc, ◌<◌, true, false, ◌==◌, cond, not, map, length, get_or, position, replicate, nat_lt, set, nat_cmp, IsTrue, Bool, Option, Some, None, refl, sym, ap, subst, ◌∙◌, arith}
 use Rattle.std.specs.FinMap.{is_sorted, put}
 use Rattle.std.specs.FinMap.{find}
-use Rattle.std.specs.List.{position_or_len, AllByRecursion}
+use Rattle.std.specs.List.{position_or_len, AllByRecursion, list_all}
 use Rattle.std.proofs.lemmas.List.{length-map}
-use Rattle.std.proofs.lemmas.List.Elements.{recursion_from_All}
+use Rattle.std.proofs.lemmas.List.Elements.{recursion_from_All, All-from_recursion}
 use Rattle.trace_types.specs.Values as values
 use Rattle.trace_types.specs.States as states
+use Rattle.trace_types.specs.WellFormed.{IsWellFormed, IsNext, IsObject, fields_fit}
 use Rattle.trace_types.proofs.Graphs.{object_at-put}
-use Rattle.std.proofs.lemmas.Bool.{eqb-true}
+use Rattle.trace_types.proofs.Least.{each_weaker}
+use Rattle.trace_types.proofs.Meeting.{each_found}
+use Rattle.trace_types.proofs.Stepping.{births_before}
+use Rattle.std.proofs.lemmas.Bool.{eqb-true, ltb-true}
 use Rattle.plain_model.specs.Plain.{meaning, HasEntry}
+use Rattle.plain_model.specs.Bytes.{are_bytes, HasBytes}
 use Rattle.plain_model.specs.Stepping.{CountsBelow}
 use Rattle.plain_model.specs.declared.value.Value.{Value}
 use Rattle.plain_model.specs.declared.state.State.TheInside.{Inside}
@@ -66,3 +71,24 @@ still_there graph line x new o none there =
   where
     not_both : (found : Option values.Object) → found ≡ Some o → found ≡ None → ⊥
     not_both found some none = cc
+
+-- a well-formed state has bytes in its byte objects
+pub bytes_of_well_formed : (s : states.State) → IsWellFormed s → HasBytes s.graph
+bytes_of_well_formed s well =
+    All-from_recursion _ s.graph (each_weaker (λ e. IsObject s.version s.oldest e.1) (λ e. IsTrue (are_bytes e.1)) (λ e is. fit e.1 is.fitting)
+    s.graph (recursion_from_All (λ e. IsObject s.version s.oldest e.1) s.graph well.objects))
+  where
+    fit : (o : values.Object) → IsTrue (fields_fit o.kind o.fields) → IsTrue (are_bytes o)
+    fit o h =
+        elim (values.has_bytes o.kind) as (λ b. IsTrue (cond b (list_all values.is_byte o.fields) (list_all values.is_value o.fields))
+        → IsTrue (cond b (list_all values.is_byte o.fields) true)) [ true ↦ λ k. k | false ↦ λ _. refl ] h
+
+-- no object has the next line as its birth
+pub line_is_new : (s : states.State) (line : ℕ) → IsNext s line → ◌≡◌ {A = Option values.Object} (values.object_at s.graph line) None
+line_is_new s line next = by_found (values.object_at s.graph line) refl
+  where
+    by_found : (found : Option values.Object) → values.object_at s.graph line ≡ found → ◌≡◌ {A = Option values.Object} found None
+    by_found None e = refl
+    by_found (Some o) e =
+        let below = ltb-true line line (each_found (λ x _. IsTrue (nat_lt x line)) s.graph (births_before s line next.above) line o e) in
+        absurd (omega arith)
