@@ -9,3 +9,4 @@ pub mod Parts
 pub mod Walking
 pub mod Counts
 pub mod Lining
+pub mod Running
