@@ -1,6 +1,6 @@
 -- Rounds over rules reach the least set.
-use Rattle.std.proofs.Common.{◌≡◌, ℕ, ◌+◌, ◌<◌, Bool, true, false, ◌&&◌, ◌||◌, not, cond, List, [], ◌∷◌, ◌++◌, length, get_or, take, All, IsTrue, ◌==◌, inl, inr, refl, sym, subst, ◌∙◌, add-one, arith}
-use Rattle.std.proofs.lemmas.List.{take_more}
+use Rattle.std.proofs.Common.{◌≡◌, ℕ, ◌+◌, ◌<◌, ◌≤◌, Bool, true, false, ◌&&◌, ◌||◌, not, cond, List, [], ◌∷◌, ◌++◌, length, get_or, drop, All, IsTrue, ◌==◌, inl, inr, refl, sym, subst, ◌∙◌, add-one, arith}
+use Rattle.std.proofs.lemmas.List.{drop_more, drop_all}
 use Rattle.std.proofs.lemmas.List.Elements.{All-append, All-weaker, All-from_recursion, recursion_from_All}
 use Rattle.std.proofs.lemmas.Bool.{or_left, or_right, or_cases, and_parts, eq-eqb, eqb-true}
 use Rattle.trace_types.specs.Rules.{Rule, has, has_premises, meets, least, after_rounds, ◌⊆◌}
@@ -8,29 +8,30 @@ use Rattle.trace_types.proofs.Least.{has-append, has_all_weaker, meets_use, meet
 use Rattle.plain_model.specs.Plain.{IsRound, Alike}
 
 -- no rule was gone over
-pub round_begun : (set : List ℕ) (all : List Rule) → IsRound set set false [] all
-round_begun set all = record {
+pub round_begun : (set : List ℕ) (all : List Rule) (n : ℕ) → length all ≤ n → IsRound set set false (drop n all) all
+round_begun set all n behind = rw (drop_all n all behind) (record {
   grows = λ x h. h;
   concludes = λ k d less. absurd (omega arith);
   below_each = λ other met sub. sub;
   same = λ _. refl;
-}
+})
 
--- what the rules had to say, and one more rule has
+-- what the rules had to say, and one rule before them has
 concluded_more : (old new : List ℕ) (all : List Rule) (i : ℕ) (r : Rule) → i < length all → r ≡ get_or all i r
-    → All (λ r. IsTrue (has_premises old r) → IsTrue (has new r.conclusion)) (take i all)
+    → All (λ r. IsTrue (has_premises old r) → IsTrue (has new r.conclusion)) (drop (i + 1) all)
     → (IsTrue (has_premises old r) → IsTrue (has new r.conclusion))
-    → All (λ r. IsTrue (has_premises old r) → IsTrue (has new r.conclusion)) (take (i + 1) all)
+    → All (λ r. IsTrue (has_premises old r) → IsTrue (has new r.conclusion)) (drop i all)
 concluded_more old new all i r less is before here =
-    rw (take_more all i r less)
-    (All-append (λ r. IsTrue (has_premises old r) → IsTrue (has new r.conclusion)) (take i all) (get_or all i r ∷ []) before
+    rw (drop_more all i r less)
+    (All-append (λ r. IsTrue (has_premises old r) → IsTrue (has new r.conclusion)) (get_or all i r ∷ []) (drop (i + 1) all)
     (All-from_recursion (λ r. IsTrue (has_premises old r) → IsTrue (has new r.conclusion)) (get_or all i r ∷ [])
-    (subst (λ q. IsTrue (has_premises old q) → IsTrue (has new q.conclusion)) is here, tt)))
+    (subst (λ q. IsTrue (has_premises old q) → IsTrue (has new q.conclusion)) is here, tt))
+    before)
 
 -- one more rule was gone over, and had nothing to add
-round_same : (old set : List ℕ) (added both : Bool) (all : List Rule) (i : ℕ) (r : Rule) → IsRound old set added (take i all) all
+round_same : (old set : List ℕ) (added both : Bool) (all : List Rule) (i : ℕ) (r : Rule) → IsRound old set added (drop (i + 1) all) all
     → i < length all → r ≡ get_or all i r → (not (has set r.conclusion) && has_premises set r) ≡ false
-    → (both ≡ false → added ≡ false) → IsRound old set both (take (i + 1) all) all
+    → (both ≡ false → added ≡ false) → IsRound old set both (drop i all) all
 round_same old set added both all i r so_far less is none flag = record {
   grows = so_far.grows;
   concludes = concluded_more old set all i r less is so_far.concludes
@@ -44,9 +45,9 @@ round_same old set added both all i r so_far less is none flag = record {
     nothing false b none h = cc
 
 -- one more rule was gone over, and its conclusion is added
-round_added : (old set : List ℕ) (added both : Bool) (all : List Rule) (i : ℕ) (rule : Rule) → IsRound old set added (take i all) all
+round_added : (old set : List ℕ) (added both : Bool) (all : List Rule) (i : ℕ) (rule : Rule) → IsRound old set added (drop (i + 1) all) all
     → i < length all → rule ≡ get_or all i rule → (not (has set rule.conclusion) && has_premises set rule) ≡ true
-    → both ≡ true → IsRound old (set ++ rule.conclusion ∷ []) both (take (i + 1) all) all
+    → both ≡ true → IsRound old (set ++ rule.conclusion ∷ []) both (drop i all) all
 round_added old set added both all i rule so_far less is new flag =
     let grown : set ⊆ (set ++ rule.conclusion ∷ []) = λ x h. rw (has-append set (rule.conclusion ∷ []) x) (or_left (has set x) (has (rule.conclusion ∷ []) x) h) in
     record {
@@ -54,7 +55,7 @@ round_added old set added both all i rule so_far less is new flag =
       concludes = concluded_more old (set ++ rule.conclusion ∷ []) all i rule less is
           (All-weaker (λ r. IsTrue (has_premises old r) → IsTrue (has set r.conclusion))
           (λ r. IsTrue (has_premises old r) → IsTrue (has (set ++ rule.conclusion ∷ []) r.conclusion))
-          (λ r concludes premises. grown r.conclusion (concludes premises)) (take i all) so_far.concludes)
+          (λ r concludes premises. grown r.conclusion (concludes premises)) (drop (i + 1) all) so_far.concludes)
           (λ _. rw (has-append set (rule.conclusion ∷ []) rule.conclusion)
           (or_right (has set rule.conclusion) (rule.conclusion == rule.conclusion || false)
           (or_left (rule.conclusion == rule.conclusion) false (eq-eqb rule.conclusion rule.conclusion refl))));
@@ -71,21 +72,27 @@ round_added old set added both all i rule so_far less is new flag =
     }
 
 -- one more rule was gone over
-pub round_more : (old set new : List ℕ) (added more both : Bool) (all : List Rule) (i : ℕ) (r : Rule) → IsRound old set added (take i all) all
-    → i < length all → r ≡ get_or all i r → more ≡ (not (has set r.conclusion) && has_premises set r)
-    → new ≡ cond more (set ++ r.conclusion ∷ []) set → both ≡ (added || more) → IsRound old new both (take (i + 1) all) all
-round_more old set new added false both all i r so_far less is when becomes flag =
-    rw becomes (round_same old set added both all i r so_far less is (sym when) (λ none. or_none added (sym flag ∙ none)))
+pub round_more : (old set new : List ℕ) (added more both : Bool) (all : List Rule) (left i : ℕ) (r : Rule)
+    → IsRound old set added (drop left all) all → left ≡ i + 1 → i < length all → r ≡ get_or all i r
+    → more ≡ (not (has set r.conclusion) && has_premises set r) → new ≡ cond more (set ++ r.conclusion ∷ []) set
+    → both ≡ (added || more) → IsRound old new both (drop i all) all
+round_more old set new added more both all left i r so_far next less is when becomes flag =
+    by_more more (subst (λ n. IsRound old set added (drop n all) all) next so_far) when becomes flag
   where
     or_none : (a : Bool) → (a || false) ≡ false → a ≡ false
     or_none true h = h
     or_none false h = refl
-round_more old set new added true both all i r so_far less is when becomes flag =
-    rw becomes (round_added old set added both all i r so_far less is (sym when) (flag ∙ or_some added))
-  where
+
     or_some : (a : Bool) → (a || true) ≡ true
     or_some true = refl
     or_some false = refl
+
+    by_more : (more : Bool) → IsRound old set added (drop (i + 1) all) all → more ≡ (not (has set r.conclusion) && has_premises set r)
+        → new ≡ cond more (set ++ r.conclusion ∷ []) set → both ≡ (added || more) → IsRound old new both (drop i all) all
+    by_more false so_far when becomes flag =
+        rw becomes (round_same old set added both all i r so_far less is (sym when) (λ none. or_none added (sym flag ∙ none)))
+    by_more true so_far when becomes flag =
+        rw becomes (round_added old set added both all i r so_far less is (sym when) (flag ∙ or_some added))
 
 -- the set has what so many rounds give, and is in the least set
 pub record IsOnTheWay (n : ℕ) (rules : List Rule) (set : List ℕ) : Type 0 where

@@ -235,3 +235,42 @@ impl State {
         Ok(())
     }
 }
+
+#[cfg(test)]
+mod tests {
+    use super::*;
+    use crate::arguments::plain_arguments;
+    use std::test::Fail;
+    use trace_types::Register;
+
+    // A pair that refers to another is given first, and the other one by the next collection.
+    #[test]
+    fn ordered_guardian_gives_the_one_that_refers_first(rt: HostRuntime) -> Result<(), Fail> {
+        let alloc = rt.alloc();
+        let mut state = State::opening(alloc, 3)?;
+        let d = Register::new(0).ok_or("no register")?;
+        let other = Register::new(1).ok_or("no register")?;
+        state.with_new(alloc, 1, d, Kind::OrderedGuard, Vec::new(alloc))?;
+        let fields = Vec::from_slice(alloc, &[Value::Fixnum(2), Value::Nil])?;
+        state.with_new(alloc, 2, other, Kind::Pair, fields)?;
+        let fields = Vec::from_slice(alloc, &[Value::Fixnum(1), Value::Object(2)])?;
+        state.with_new(alloc, 3, other, Kind::Pair, fields)?;
+        state.with_register(other, Value::Nil);
+        for (line, birth) in [(4, 2), (5, 3)] {
+            state.registrations.push(Registration {
+                line,
+                guardian: 1,
+                object: Value::Object(birth),
+                representative: Value::Object(birth),
+            })?;
+        }
+        for (n, given) in [(1, (Value::Object(3), 5)), (4, (Value::Object(2), 4))] {
+            state.collect(alloc, plain_arguments(3, n))?;
+            let guardian = state.object_at(1).ok_or("no guardian")?;
+            assert_eq!(rt; guardian.queue.as_slice(), [given].as_slice());
+            let emptied = state.new_object(alloc, Kind::OrderedGuard, Vec::new(alloc));
+            state.with_object(1, emptied)?;
+        }
+        Ok(())
+    }
+}

@@ -24,13 +24,16 @@ fn conclude(rule: &Rule, set: &mut Births) -> Result<bool, AllocError>
     Ok(true)
 }
 
-// Goes over the rules once, and puts each conclusion into the set whose premises are there. Tells whether one was new.
+// Goes over the rules once, the last first, and puts each conclusion into the set whose premises are there. Tells
+// whether one was new. (The last first, since the newest objects have their rules last, and most refer to older ones.)
 fn round(rules: &[Rule], set: &mut Births) -> Result<bool, AllocError>
     ensures { IfOk result (λ added. IsRound set.old set.new added rules.now rules.now) }
 {
     let mut added = false;
-    for rule in rules {
-        let more = conclude(rule, set)?;
+    let mut left = rules.len();
+    while left > 0 {
+        left -= 1;
+        let more = conclude(&rules[left], set)?;
         added |= more;
     }
     Ok(added)

@@ -5,7 +5,7 @@ ghost use Rattle.trace_types.specs.Values as values;
 ghost use Rattle.trace_types.specs.States as states;
 ghost use Rattle.plain_model.specs.Plain.{meaning, note_meaning};
 
-use crate::entries::{index_of, put_entry};
+use crate::entries::{index_in_order, index_of, put_entry};
 use crate::note::Note;
 use crate::object::Object;
 use crate::registration::Registration;
@@ -134,12 +134,10 @@ impl State {
     pub fn object_at(&self, birth: u32) -> Option<&Object>
         ensures { MatchOption result (values.object_at self.now.graph birth ≡ None) (λ o. values.object_at self.now.graph birth ≡ Some o.now) }
     {
-        for (other, object) in &self.graph {
-            if *other == birth {
-                return Some(object);
-            }
+        match index_in_order(&self.graph, birth) {
+            Some(place) => Some(&self.graph[place].1),
+            None => None,
         }
-        None
     }
 
     /// Puts the object into the graph under the birth.
@@ -154,7 +152,7 @@ impl State {
     pub fn with_field(&mut self, birth: u32, index: usize, value: Value)
         ensures { (o : values.Object) → values.object_at self.old.graph birth ≡ Some o → self.new ≡ states.with_field self.old birth o index (meaning value) }
     {
-        match index_of(&self.graph, birth) {
+        match index_in_order(&self.graph, birth) {
             Some(place) => self.graph[place].1.with_field(index, value),
             None => (),
         }

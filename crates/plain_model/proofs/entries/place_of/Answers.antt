@@ -1,12 +1,20 @@
-use Rattle.plain_model.proofs.Placing.{place_here, place_later}
+use Rattle.std.proofs.Common.{arith}
+use Rattle.plain_model.proofs.Placing.{place_above, place_below, place_in_list}
 use Rattle.plain_model.proofs.entries.place_of.Goals as goal
 
-pub returns-then-birth-entry : goal.returns-then-birth-entry
-returns-then-birth-entry g c =
-    place_here c.args.entries.now c.loop-index.index c.args.birth c.index-entries-index.result c.loop-index.invariant
-    c.loop-index-test.true c.index-entries-index.is c.if-birth-entry.true
+pub loop-low-init : goal.loop-low-init
+loop-low-init g c = (omega arith, place_in_list c.args.birth c.args.entries.now, omega arith)
 
-pub loop-index-preserved : goal.loop-index-preserved
-loop-index-preserved g c =
-    place_later c.args.entries.now c.loop-index.index c.args.birth c.index-entries-index.result c.loop-index.invariant
-    c.loop-index-test.true c.index-entries-index.is c.if-birth-entry.false
+pub loop-low-preserved-then-entries-middle : goal.loop-low-preserved-then-entries-middle
+loop-low-preserved-then-entries-middle g c = (
+  place_above c.args.entries.now _ c.args.birth c.index-entries-middle.result c.requires (omega arith) c.if-entries-middle.true,
+  c.loop-low.invariant.1,
+  c.loop-low.invariant.2,
+)
+
+pub loop-low-preserved : goal.loop-low-preserved
+loop-low-preserved g c = (
+  c.loop-low.invariant.0,
+  place_below c.args.entries.now _ c.args.birth c.index-entries-middle.result (omega arith) c.if-entries-middle.false,
+  omega arith,
+)
