@@ -38,16 +38,19 @@ module _ {X : Type 0} where
   -- the entry of the birth is the one at this index
   abbrev pub HasEntry : List (ℕ × X) → ℕ → ℕ → Type 0
   HasEntry entries i birth =
-      (i < length entries) × ((e : ℕ × X) → (slice_index_or entries i e).0 ≡ birth) × ((e : ℕ × X) → find nat_cmp birth entries ≡ Some (slice_index_or entries i e).1)
+      (i < length entries)
+      × ((e : ℕ × X) → (slice_index_or entries i e).0 ≡ birth)
+      × ((e : ℕ × X) → find nat_cmp birth entries ≡ Some (slice_index_or entries i e).1)
 
 -- the two sets have the same members
 abbrev pub Alike : List ℕ → List ℕ → Type 0
 Alike s t = (x : ℕ) → has s x ≡ has t x
 
--- What a set became by going over the first of some rules: it grew, it has what these rules conclude from what was there
--- before, it is in each set that meets all rules and had what was there before, and where nothing was added it is the same.
-pub record IsRound (old new : List ℕ) (added : Bool) (first all : List Rule) : Type 0 where
+-- What a set became by going over some of all rules: it grew, it has what these rules conclude from what was there
+-- before, it is in each set that meets all rules and had what was there before, and where nothing was added it is
+-- the same.
+pub record IsRound (old new : List ℕ) (added : Bool) (some all : List Rule) : Type 0 where
   pub grows : old ⊆ new
-  pub concludes : All (λ r. IsTrue (has_premises old r) → IsTrue (has new r.conclusion)) first
+  pub concludes : All (λ r. IsTrue (has_premises old r) → IsTrue (has new r.conclusion)) some
   pub below_each : (other : List ℕ) → MeetsAll other all → old ⊆ other → new ⊆ other
   pub same : added ≡ false → new ≡ old

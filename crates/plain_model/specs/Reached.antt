@@ -26,4 +26,6 @@ IsKept s sets = IsWaitedFor s sets × Alike sets.kept (kept s sets.cg)
 -- the rules of what is kept, where W is given by this list of its members
 abbrev pub kept_rules_with : State → ℕ → List ℕ → List Rule
 kept_rules_with s cg waited =
-    rules s ++ served s cg ++ facts waited ++ facts (objects_in (map (λ r. r.representative) (ready s cg))) ++ unready_rules s cg
+    rules s ++ served s cg ++ facts waited
+    ++ facts (objects_in (map (λ r. r.representative) (ready s cg)))
+    ++ unready_rules s cg

@@ -67,7 +67,8 @@ pub fn plain_arguments(oldest: u8, n: u32) -> Arguments
 impl Arguments {
     // Whether the arguments are for a generation below the oldest, and no survivor goes further than the next one.
     fn are_for_younger(self, oldest: u8) -> bool
-        ensures { result ≡ (nat_lt self.cg oldest && nat_le self.cg self.least && nat_le self.least self.greatest && nat_le self.greatest (self.cg + 1)) }
+        ensures { result ≡ (nat_lt self.cg oldest && nat_le self.cg self.least
+            && nat_le self.least self.greatest && nat_le self.greatest (self.cg + 1)) }
     {
         self.cg < oldest
             && self.cg <= self.least

@@ -5,7 +5,7 @@ ghost use Rattle.trace_types.specs.States as states;
 ghost use Rattle.trace_types.specs.Rules.{has};
 ghost use Rattle.trace_types.specs.Values.{object_at};
 ghost use Rattle.trace_types.specs.Kept.{is_given};
-ghost use Rattle.trace_types.specs.Collections as collections;
+ghost use Rattle.trace_types.specs.Collections.{collect, fields_left, graph_left, is_note_gone, note_left, object_left, queued_for, registrations_left, unless_outside};
 ghost use Rattle.plain_model.specs.Plain.{meaning, queued, note_meaning};
 ghost use Rattle.plain_model.specs.Reached.{IsKept};
 
@@ -24,7 +24,7 @@ use trace_types::Kind;
 impl Births {
     // The value, broken where it is an object outside the set.
     fn unless_outside(&self, value: Value) -> Value
-        ensures { meaning result ≡ collections.unless_outside self.now (meaning value) }
+        ensures { meaning result ≡ unless_outside self.now (meaning value) }
     {
         if self.is_outside(value) {
             Value::Bwp
@@ -40,7 +40,7 @@ impl Births {
         kind: Kind,
         fields: &[Value],
     ) -> Result<Vec<Value>, AllocError>
-        ensures { IfOk result (λ left. map meaning left.items ≡ collections.fields_left self.now kind (map meaning fields.now)) }
+        ensures { IfOk result (λ left. map meaning left.items ≡ fields_left self.now kind (map meaning fields.now)) }
     {
         let mut left = fields.to_vec(alloc)?;
         match kind {
@@ -82,7 +82,8 @@ impl State {
         queue: &mut Vec<(Value, u32)>,
     ) -> Result<(), AllocError>
         requires { IsKept self.now sets.now }
-        ensures { OnOk result (map queued queue.new.items ≡ map queued queue.old.items ++ collections.queued_for self.now sets.now.cg guardian) }
+        ensures { OnOk result (map queued queue.new.items
+            ≡ map queued queue.old.items ++ queued_for self.now sets.now.cg guardian) }
     {
         for registration in &self.registrations {
             if self.is_given_to(sets, guardian, registration) {
@@ -103,7 +104,7 @@ impl State {
     ) -> Result<Object, AllocError>
         requires sets { IsKept self.now sets.now }
         requires same { sets.now.cg ≡ a.cg }
-        ensures { IfOk result (λ left. left ≡ collections.object_left self.now a birth object.now) }
+        ensures { IfOk result (λ left. left ≡ object_left self.now a birth object.now) }
     {
         let fields = sets.kept.fields_left(alloc, object.kind, &object.fields)?;
         let mut queue = object.queue.to_vec(alloc)?;
@@ -126,7 +127,7 @@ impl State {
     ) -> Result<Vec<(u32, Object)>, AllocError>
         requires sets { IsKept self.now sets.now }
         requires same { sets.now.cg ≡ a.cg }
-        ensures { IfOk result (λ graph. graph.items ≡ collections.graph_left self.now a) }
+        ensures { IfOk result (λ graph. graph.items ≡ graph_left self.now a) }
     {
         let mut graph = Vec::new(alloc);
         for (birth, object) in &self.graph {
@@ -145,7 +146,7 @@ impl State {
         sets: &Sets,
     ) -> Result<Vec<Registration>, AllocError>
         requires { IsKept self.now sets.now }
-        ensures { IfOk result (λ left. left.items ≡ collections.registrations_left self.now sets.now.cg) }
+        ensures { IfOk result (λ left. left.items ≡ registrations_left self.now sets.now.cg) }
     {
         let mut left = Vec::new(alloc);
         for registration in &self.registrations {
@@ -171,7 +172,7 @@ impl State {
     // Whether a note of the object goes.
     fn is_note_gone(&self, sets: &Sets, birth: u32) -> bool
         requires { IsKept self.now sets.now }
-        ensures { result ≡ collections.is_note_gone self.now sets.now.cg birth (object_at self.now.graph birth) }
+        ensures { result ≡ is_note_gone self.now sets.now.cg birth (object_at self.now.graph birth) }
     {
         match self.object_at(birth) {
             Some(object) => {
@@ -193,7 +194,7 @@ impl State {
     // What becomes of a note.
     fn note_left(&self, sets: &Sets, note: Note) -> Note
         requires { IsKept self.now sets.now }
-        ensures { note_meaning result ≡ collections.note_left self.now sets.now.cg (note_meaning note) }
+        ensures { note_meaning result ≡ note_left self.now sets.now.cg (note_meaning note) }
     {
         match note {
             Note::SetTo(birth) => {
@@ -210,7 +211,7 @@ impl State {
     // What becomes of the notes.
     fn notes_left(&self, alloc: Global, sets: &Sets) -> Result<Vec<Note>, AllocError>
         requires { IsKept self.now sets.now }
-        ensures { IfOk result (λ left. map note_meaning left.items ≡ map (collections.note_left self.now sets.now.cg) self.now.notes) }
+        ensures { IfOk result (λ left. map note_meaning left.items ≡ map (note_left self.now sets.now.cg) self.now.notes) }
     {
         let mut left = Vec::new(alloc);
         for note in &self.notes {
@@ -222,7 +223,7 @@ impl State {
     /// Collects with these arguments. Refused, the state is as it was.
     #[tactic(auto, unfolding(trace_types::specs::Collections::collect))]
     pub fn collect(&mut self, alloc: Global, a: Arguments) -> Result<(), AllocError>
-        ensures collects { OnOk result (self.new ≡ collections.collect self.old a) }
+        ensures collects { OnOk result (self.new ≡ collect self.old a) }
         ensures refused { OnErr result (self.new ≡ self.old) }
     {
         let sets = self.sets(alloc, a.cg)?;

@@ -11,7 +11,8 @@ use std::alloc::{AllocError, Global};
 
 // Puts the conclusion into the set, where it is not there and all premises are. Tells whether it did.
 fn conclude(rule: &Rule, set: &mut Births) -> Result<bool, AllocError>
-    ensures added { IfOk result (λ added. added ≡ (not (has set.old rule.now.conclusion) && has_premises set.old rule.now)) }
+    ensures added { IfOk result (λ added.
+        added ≡ (not (has set.old rule.now.conclusion) && has_premises set.old rule.now)) }
     ensures set { IfOk result (λ added. set.new ≡ (if added then set.old ++ rule.now.conclusion ∷ [] else set.old)) }
 {
     if set.contains(rule.conclusion) {
@@ -24,8 +25,8 @@ fn conclude(rule: &Rule, set: &mut Births) -> Result<bool, AllocError>
     Ok(true)
 }
 
-// Goes over the rules once, the last first, and puts each conclusion into the set whose premises are there. Tells
-// whether one was new. (The last first, since the newest objects have their rules last, and most refer to older ones.)
+// Goes over the rules once, and puts each conclusion into the set whose premises are there. Tells whether one was new.
+// It begins with the last rules, which are those of the newest objects, since most objects refer to older ones.
 fn round(rules: &[Rule], set: &mut Births) -> Result<bool, AllocError>
     ensures { IfOk result (λ added. IsRound set.old set.new added rules.now rules.now) }
 {

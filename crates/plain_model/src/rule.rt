@@ -104,7 +104,8 @@ pub fn push_rules_to(
     premises: &[u32],
     rules: &mut Vec<Rule>,
 ) -> Result<(), AllocError>
-    ensures { OnOk result (rules.new.items ≡ rules.old.items ++ flat_map (λ v. rules_to v premises.now) (map meaning values.now)) }
+    ensures { OnOk result (rules.new.items
+        ≡ rules.old.items ++ flat_map (λ v. rules_to v premises.now) (map meaning values.now)) }
 {
     for value in values {
         push_rule_to(alloc, *value, premises, rules)?;

@@ -3,7 +3,7 @@
 ghost use Rattle.std.specs.Prelude.{◌≡◌, ◌∷◌, [], ◌++◌, ◌&&◌, map, flat_map, IfOk, OnOk};
 ghost use Rattle.trace_types.specs.Values.{objects_in};
 ghost use Rattle.trace_types.specs.Rules.{facts};
-ghost use Rattle.trace_types.specs.Kept as kept_of;
+ghost use Rattle.trace_types.specs.Kept.{accessible, accessible_or_served, as_though, as_though_member, is_candidate, is_dead, is_given, is_ordered, is_ready, is_unordered, is_unready, kept, ready, served, unready_rules, waited_for};
 ghost use Rattle.plain_model.specs.Plain.{Alike, meaning};
 ghost use Rattle.plain_model.specs.Reached.{IsAccessible, IsServed, IsWaitedFor, IsKept, kept_rules_with};
 
@@ -33,7 +33,7 @@ pub struct Sets {
 impl State {
     // Whether the registration's guardian is an unordered one.
     fn is_unordered(&self, registration: &Registration) -> bool
-        ensures { result ≡ kept_of.is_unordered self.now registration.now }
+        ensures { result ≡ is_unordered self.now registration.now }
     {
         match self.object_at(registration.guardian) {
             Some(guardian) => is_unordered_kind(guardian.kind),
@@ -43,7 +43,7 @@ impl State {
 
     // Whether the registration's guardian is an ordered one.
     fn is_ordered(&self, registration: &Registration) -> bool
-        ensures { result ≡ kept_of.is_ordered self.now registration.now }
+        ensures { result ≡ is_ordered self.now registration.now }
     {
         match self.object_at(registration.guardian) {
             Some(guardian) => is_ordered_kind(guardian.kind),
@@ -54,7 +54,7 @@ impl State {
     // Whether the registration's object is inaccessible.
     fn is_dead(&self, sets: &Sets, registration: &Registration) -> bool
         requires { IsAccessible self.now sets.now }
-        ensures { result ≡ kept_of.is_dead self.now sets.now.cg registration.now }
+        ensures { result ≡ is_dead self.now sets.now.cg registration.now }
     {
         sets.accessible.is_outside(registration.object)
     }
@@ -62,7 +62,7 @@ impl State {
     // Whether the registration is dead and its guardian an unordered one.
     fn is_saved(&self, sets: &Sets, registration: &Registration) -> bool
         requires { IsAccessible self.now sets.now }
-        ensures { result ≡ (kept_of.is_dead self.now sets.now.cg registration.now && kept_of.is_unordered self.now registration.now) }
+        ensures { result ≡ (is_dead self.now sets.now.cg registration.now && is_unordered self.now registration.now) }
     {
         if !self.is_dead(sets, registration) {
             return false;
@@ -73,7 +73,7 @@ impl State {
     // Whether the registration may be ready.
     fn is_candidate(&self, sets: &Sets, registration: &Registration) -> bool
         requires { IsServed self.now sets.now }
-        ensures { result ≡ kept_of.is_candidate self.now sets.now.cg registration.now }
+        ensures { result ≡ is_candidate self.now sets.now.cg registration.now }
     {
         if !self.is_dead(sets, registration) {
             return false;
@@ -90,7 +90,7 @@ impl State {
     // Whether the registration is a candidate and nothing waits for it.
     fn is_ready(&self, sets: &Sets, registration: &Registration) -> bool
         requires { IsWaitedFor self.now sets.now }
-        ensures { result ≡ kept_of.is_ready self.now sets.now.cg registration.now }
+        ensures { result ≡ is_ready self.now sets.now.cg registration.now }
     {
         if !self.is_candidate(sets, registration) {
             return false;
@@ -101,7 +101,7 @@ impl State {
     // Whether the registration is a dead one of an ordered guardian, and no candidate.
     fn is_unready(&self, sets: &Sets, registration: &Registration) -> bool
         requires { IsServed self.now sets.now }
-        ensures { result ≡ kept_of.is_unready self.now sets.now.cg registration.now }
+        ensures { result ≡ is_unready self.now sets.now.cg registration.now }
     {
         if !self.is_dead(sets, registration) {
             return false;
@@ -115,7 +115,7 @@ impl State {
     /// Whether the registration's representative goes into its guardian's queue.
     pub fn is_given(&self, sets: &Sets, registration: &Registration) -> bool
         requires { IsKept self.now sets.now }
-        ensures { result ≡ kept_of.is_given self.now sets.now.cg registration.now }
+        ensures { result ≡ is_given self.now sets.now.cg registration.now }
     {
         if self.is_ready(sets, registration) {
             return true;
@@ -134,7 +134,7 @@ impl State {
         rules: &mut Vec<Rule>,
     ) -> Result<(), AllocError>
         requires { IsAccessible self.now sets.now }
-        ensures { OnOk result (rules.new.items ≡ rules.old.items ++ kept_of.served self.now sets.now.cg) }
+        ensures { OnOk result (rules.new.items ≡ rules.old.items ++ served self.now sets.now.cg) }
     {
         for registration in &self.registrations {
             if self.is_saved(sets, registration) {
@@ -156,7 +156,7 @@ impl State {
         member: u32,
         rules: &mut Vec<Rule>,
     ) -> Result<(), AllocError>
-        ensures { OnOk result (rules.new.items ≡ rules.old.items ++ kept_of.as_though_member self.now member) }
+        ensures { OnOk result (rules.new.items ≡ rules.old.items ++ as_though_member self.now member) }
     {
         for (birth, object) in &self.graph {
             if member == *birth {
@@ -173,7 +173,8 @@ impl State {
         value: Value,
         rules: &mut Vec<Rule>,
     ) -> Result<(), AllocError>
-        ensures { OnOk result (rules.new.items ≡ rules.old.items ++ flat_map (kept_of.as_though_member self.now) (objects_in (meaning value ∷ []))) }
+        ensures { OnOk result (rules.new.items
+            ≡ rules.old.items ++ flat_map (as_though_member self.now) (objects_in (meaning value ∷ []))) }
     {
         match value {
             Value::Object(birth) => self.push_as_though_member(alloc, birth, rules),
@@ -189,7 +190,7 @@ impl State {
         rules: &mut Vec<Rule>,
     ) -> Result<(), AllocError>
         requires { IsServed self.now sets.now }
-        ensures { OnOk result (rules.new.items ≡ rules.old.items ++ kept_of.as_though self.now sets.now.cg) }
+        ensures { OnOk result (rules.new.items ≡ rules.old.items ++ as_though self.now sets.now.cg) }
     {
         for registration in &self.registrations {
             if self.is_candidate(sets, registration) {
@@ -202,7 +203,8 @@ impl State {
     // Appends the representatives of the candidates that are ready.
     fn push_ready(&self, sets: &Sets, objects: &mut Vec<u32>) -> Result<(), AllocError>
         requires { IsWaitedFor self.now sets.now }
-        ensures { OnOk result (objects.new.items ≡ objects.old.items ++ objects_in (map (λ r. r.representative) (kept_of.ready self.now sets.now.cg))) }
+        ensures { OnOk result (objects.new.items
+            ≡ objects.old.items ++ objects_in (map (λ r. r.representative) (ready self.now sets.now.cg))) }
     {
         for registration in &self.registrations {
             if self.is_ready(sets, registration) {
@@ -220,7 +222,7 @@ impl State {
         rules: &mut Vec<Rule>,
     ) -> Result<(), AllocError>
         requires { IsServed self.now sets.now }
-        ensures { OnOk result (rules.new.items ≡ rules.old.items ++ kept_of.unready_rules self.now sets.now.cg) }
+        ensures { OnOk result (rules.new.items ≡ rules.old.items ++ unready_rules self.now sets.now.cg) }
     {
         for registration in &self.registrations {
             if self.is_unready(sets, registration) {
@@ -248,7 +250,7 @@ impl State {
     // What is kept, once the other sets are there.
     fn kept(&self, alloc: Global, sets: &Sets) -> Result<Births, AllocError>
         requires { IsWaitedFor self.now sets.now }
-        ensures { IfOk result (λ set. Alike set (kept_of.kept self.now sets.now.cg)) }
+        ensures { IfOk result (λ set. Alike set (kept self.now sets.now.cg)) }
     {
         let rules = self.kept_rules(alloc, sets)?;
         let set = least(alloc, &rules)?;
@@ -272,10 +274,10 @@ impl State {
     #[tactic(auto, unfolding(trace_types::specs::Kept::accessible, trace_types::specs::Kept::accessible_or_served, trace_types::specs::Kept::waited_for))]
     pub fn sets(&self, alloc: Global, cg: u8) -> Result<Sets, AllocError>
         ensures cg { IfOk result (λ sets. sets.cg ≡ cg) }
-        ensures accessible { IfOk result (λ sets. Alike sets.accessible (kept_of.accessible self.now cg)) }
-        ensures served { IfOk result (λ sets. Alike sets.served (kept_of.accessible_or_served self.now cg)) }
-        ensures waited_for { IfOk result (λ sets. Alike sets.waited_for (kept_of.waited_for self.now cg)) }
-        ensures kept { IfOk result (λ sets. Alike sets.kept (kept_of.kept self.now cg)) }
+        ensures accessible { IfOk result (λ sets. Alike sets.accessible (accessible self.now cg)) }
+        ensures served { IfOk result (λ sets. Alike sets.served (accessible_or_served self.now cg)) }
+        ensures waited_for { IfOk result (λ sets. Alike sets.waited_for (waited_for self.now cg)) }
+        ensures kept { IfOk result (λ sets. Alike sets.kept (kept self.now cg)) }
     {
         let mut sets = self.no_sets(alloc, cg);
         let mut rules = self.rules(alloc)?;

@@ -12,7 +12,8 @@ use std::alloc::{AllocError, Global};
 impl State {
     // Appends what follows from each object.
     fn push_object_rules(&self, alloc: Global, rules: &mut Vec<Rule>) -> Result<(), AllocError>
-        ensures { OnOk result (rules.new.items ≡ rules.old.items ++ flat_map (λ entry. object_rules entry.0 entry.1) self.now.graph) }
+        ensures { OnOk result (rules.new.items
+            ≡ rules.old.items ++ flat_map (λ entry. object_rules entry.0 entry.1) self.now.graph) }
     {
         for (birth, object) in &self.graph {
             object.push_rules(alloc, *birth, rules)?;
