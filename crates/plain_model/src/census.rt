@@ -1,5 +1,6 @@
-// How many objects and words there are.
-ghost use Rattle.std.specs.Prelude.{◌≡◌, ◌++◌, ◌==◌, ◌≤◌, ◌+◌, ℕ, [], codes, decimal, map, filter, length, sum, IfOk, OnOk, flat_map};
+//! How many objects and words there are.
+
+ghost use Rattle.std.specs.Prelude.{◌≡◌, ◌++◌, codes, decimal, map, filter, length, sum, IfOk, OnOk, flat_map};
 ghost use Rattle.trace_types.specs.Values.{size_of};
 ghost use Rattle.trace_types.specs.Rules.{has};
 ghost use Rattle.trace_types.specs.Printing.{of_generation, words_of, census_text, size_text};
@@ -31,7 +32,8 @@ fn push_generations(
     generations: &[u8],
     text: &mut Vec<u8>,
 ) -> Result<(), AllocError>
-    ensures { OnOk result (text.new.items ≡ text.old.items ++ flat_map (generation_line state.now.graph) generations.now) }
+    ensures { OnOk result (text.new.items ≡ text.old.items
+        ++ flat_map (generation_line state.now.graph) generations.now) }
 {
     for generation in generations {
         push_line(alloc, state, *generation, text)?;
@@ -55,7 +57,8 @@ fn push_line(alloc: Global, state: &State, generation: u8, text: &mut Vec<u8>) -
 
 /// Appends how many sizes there are and their sum.
 pub(crate) fn push_counts(sizes: &[u64], text: &mut Vec<u8>) -> Result<(), AllocError>
-    ensures { OnOk result (text.new.items ≡ text.old.items ++ decimal (length sizes.now) ++ codes " " ++ decimal (sum sizes.now) ++ codes "\n") }
+    ensures { OnOk result (text.new.items ≡ text.old.items
+        ++ decimal (length sizes.now) ++ codes " " ++ decimal (sum sizes.now) ++ codes "\n") }
 {
     push_number(text, sizes.len() as u64)?;
     push_word(text, b" ")?;
@@ -98,7 +101,8 @@ impl Object {
 
 // The sizes of the objects of one generation.
 fn sizes_in(alloc: Global, graph: &[(u32, Object)], generation: u8) -> Result<Vec<u64>, AllocError>
-    ensures { IfOk result (λ sizes. sizes.items ≡ map (λ entry. size_of entry.1.kind entry.1.fields) (of_generation generation graph.now)) }
+    ensures { IfOk result (λ sizes. sizes.items
+        ≡ map (λ entry. size_of entry.1.kind entry.1.fields) (of_generation generation graph.now)) }
 {
     let mut sizes = Vec::new(alloc);
     for (_, object) in graph {
@@ -110,8 +114,14 @@ fn sizes_in(alloc: Global, graph: &[(u32, Object)], generation: u8) -> Result<Ve
 }
 
 /// The sizes of the objects of a set of births.
-pub(crate) fn sizes_among(alloc: Global, graph: &[(u32, Object)], set: &Births) -> Result<Vec<u64>, AllocError>
-    ensures { IfOk result (λ sizes. sizes.items ≡ map (λ entry. size_of entry.1.kind entry.1.fields) (filter (λ entry. has set.now entry.0) graph.now)) }
+pub(crate) fn sizes_among(
+    alloc: Global,
+    graph: &[(u32, Object)],
+    set: &Births,
+) -> Result<Vec<u64>, AllocError>
+    ensures { IfOk result (λ sizes. sizes.items
+        ≡ map (λ entry. size_of entry.1.kind entry.1.fields)
+        (filter (λ entry. has set.now entry.0) graph.now)) }
 {
     let mut sizes = Vec::new(alloc);
     for (birth, object) in graph {

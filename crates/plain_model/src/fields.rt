@@ -1,4 +1,5 @@
-// The commands on registers and fields.
+//! The commands on registers and fields.
+
 ghost use Rattle.std.specs.Prelude.{◌≡◌, ◌<◌, ◌≤◌, MatchOption, length};
 ghost use Rattle.trace_types.specs.Values.{field_at};
 ghost use Rattle.trace_types.specs.Steps.{step};
@@ -39,7 +40,13 @@ impl State {
 
     /// `get`.
     #[tactic(auto, unfolding(trace_types::specs::Steps::step))]
-    pub(crate) fn get(&mut self, alloc: Global, d: Register, from: Register, index: u32) -> Result<Vec<u8>, Stop>
+    pub(crate) fn get(
+        &mut self,
+        alloc: Global,
+        d: Register,
+        from: Register,
+        index: u32,
+    ) -> Result<Vec<u8>, Stop>
         ensures { Answers (step self.old 0 (Command.Get d from index)) result self.old self.new }
     {
         let (_, object) = self.fielded_of(self.register_value(from))?;
@@ -54,7 +61,13 @@ impl State {
 
     /// `set`.
     #[tactic(auto, unfolding(trace_types::specs::Steps::step))]
-    pub(crate) fn set(&mut self, alloc: Global, into: Register, index: u32, value: Operand) -> Result<Vec<u8>, Stop>
+    pub(crate) fn set(
+        &mut self,
+        alloc: Global,
+        into: Register,
+        index: u32,
+        value: Operand,
+    ) -> Result<Vec<u8>, Stop>
         ensures { Answers (step self.old 0 (Command.Set into index value)) result self.old self.new }
     {
         let value = self.operand_value(value);

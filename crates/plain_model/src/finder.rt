@@ -1,6 +1,7 @@
 //! Why an object is kept, and how much it holds.
 
-ghost use Rattle.std.specs.Prelude.{◌≡◌, ◌∷◌, [], ◌++◌, ℕ, map, flat_map, option_map, MatchOption, Some, None, IfOk, OnOk};
+ghost use Rattle.std.specs.Prelude.{◌≡◌, ◌∷◌, [], ◌++◌, map, flat_map, option_map, IfOk, OnOk};
+ghost use Rattle.std.specs.Prelude.{MatchOption, Some, None};
 ghost use Rattle.std.specs.FinMap.{find};
 ghost use Rattle.std.specs.Ordering.{nat_cmp};
 ghost use Rattle.trace_types.specs.Values.{object_at, size_of};
@@ -38,7 +39,8 @@ impl Model for Walk {
 
 // The walk from the object.
 fn walk_from(walks: &[Walk], from: u32) -> Option<&Walk>
-    ensures { MatchOption result (find nat_cmp from walks.now ≡ None) (λ w. find nat_cmp from walks.now ≡ Some w.now.1) }
+    ensures { MatchOption result (find nat_cmp from walks.now
+        ≡ None) (λ w. find nat_cmp from walks.now ≡ Some w.now.1) }
 {
     for walk in walks {
         if walk.from == from {
@@ -141,7 +143,8 @@ fn longer_from(
 
 // Appends the walk, where there is one.
 fn push_walk(walks: &mut Vec<Walk>, from: u32, indexes: Option<Vec<u64>>) -> Result<(), AllocError>
-    ensures { OnOk result (walks.new.items ≡ walks.old.items ++ listed from (option_map (λ w. w.items) indexes)) }
+    ensures { OnOk result (walks.new.items ≡ walks.old.items
+        ++ listed from (option_map (λ w. w.items) indexes)) }
 {
     match indexes {
         Some(indexes) => {
@@ -170,7 +173,8 @@ fn push_longer(
 
 // The first walks from each object that are a step longer than these.
 fn longer(alloc: Global, state: &State, walks: &[Walk]) -> Result<Vec<Walk>, AllocError>
-    ensures { IfOk result (λ v. v.items ≡ flat_map (λ entry. longer_walk state.now.graph walks.now entry.0) state.now.graph) }
+    ensures { IfOk result (λ v. v.items
+        ≡ flat_map (λ entry. longer_walk state.now.graph walks.now entry.0) state.now.graph) }
 {
     let mut found = Vec::new(alloc);
     for (from, _) in state.graph() {
@@ -217,7 +221,8 @@ fn push_strong_rules(
     graph: &[(u32, Object)],
     rules: &mut Vec<Rule>,
 ) -> Result<(), AllocError>
-    ensures { OnOk result (rules.new.items ≡ rules.old.items ++ flat_map (λ entry. strong_rules entry.0 entry.1) graph.now) }
+    ensures { OnOk result (rules.new.items ≡ rules.old.items
+        ++ flat_map (λ entry. strong_rules entry.0 entry.1) graph.now) }
 {
     for (birth, object) in graph {
         object.push_strong_rules(alloc, *birth, rules)?;
@@ -228,7 +233,8 @@ fn push_strong_rules(
 // The sizes of the objects that are reached from an object.
 #[tactic(auto, unfolding(trace_types::specs::Finder::reach))]
 fn reached_sizes(alloc: Global, state: &State, birth: u32) -> Result<Vec<u64>, AllocError>
-    ensures { IfOk result (λ sizes. sizes.items ≡ map (λ entry. size_of entry.1.kind entry.1.fields) (finder.reached state.now.graph birth)) }
+    ensures { IfOk result (λ sizes. sizes.items
+        ≡ map (λ entry. size_of entry.1.kind entry.1.fields) (finder.reached state.now.graph birth)) }
 {
     let mut rules = Vec::new(alloc);
     push_facts(alloc, &[birth], &mut rules)?;
@@ -240,7 +246,8 @@ fn reached_sizes(alloc: Global, state: &State, birth: u32) -> Result<Vec<u64>, A
 
 // The same from a value.
 fn held_sizes(alloc: Global, state: &State, value: Value) -> Result<Vec<u64>, AllocError>
-    ensures { IfOk result (λ sizes. sizes.items ≡ map (λ entry. size_of entry.1.kind entry.1.fields) (held state.now.graph (meaning value))) }
+    ensures { IfOk result (λ sizes. sizes.items
+        ≡ map (λ entry. size_of entry.1.kind entry.1.fields) (held state.now.graph (meaning value))) }
 {
     match value {
         Value::Object(birth) => reached_sizes(alloc, state, birth),

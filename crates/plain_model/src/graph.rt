@@ -1,4 +1,5 @@
-// The parts of a state, as the other files read them.
+//! The parts of a state, as the other files read them.
+
 ghost use Rattle.std.specs.Prelude.{◌≡◌, MatchOption, Some, None};
 ghost use Rattle.trace_types.specs.Values as values;
 ghost use Rattle.plain_model.specs.Plain.{meaning};

@@ -1,4 +1,5 @@
-// The commands on guardians.
+//! The commands on guardians.
+
 ghost use Rattle.std.specs.Prelude.{◌≡◌, ◌∷◌, ◌++◌, [], drop, MatchOption, OnOk, Some};
 ghost use Rattle.trace_types.specs.States as states;
 ghost use Rattle.trace_types.specs.Values as values;
@@ -78,7 +79,8 @@ impl State {
         object: Operand,
         representative: Option<Operand>,
     ) -> Result<Vec<u8>, Stop>
-        ensures { Answers (step self.old line (Command.Reg guardian object representative)) result self.old self.new }
+        ensures { Answers (step self.old line (Command.Reg guardian object representative))
+            result self.old self.new }
     {
         let value = self.operand_value(object);
         let (birth, _) = self.guardian_of(self.register_value(guardian))?;

@@ -4,6 +4,8 @@
 //! the plain, slow program whose contracts are the definitions of `trace_types`, word for word. What it prints
 //! is compared with worked cases and with other programs. No program for users stands on it.
 //!
+//! `run` goes over the bytes of a trace, `State::step` performs one command, and `State::collect` is a collection.
+//!
 //! In contracts a `State`, an `Object`, a `Registration` and a `Rule` are those of the definitions; a `Value`
 //! and a `Note` mean one by `meaning` and `note_meaning`. Invariant of `State`: 4,096 registers, 256 notes, and
 //! the objects stand in ascending order of births. Each call that gives a `Result` takes memory, and no other
@@ -43,6 +45,7 @@ mod value;
 pub use arguments::{Arguments, plain_arguments};
 pub use births::Births;
 pub use census::push_census;
+pub use finder::{path, push_size};
 pub use kinds::{
     has_bytes, is_ephemeron, is_guardian, is_immobile, is_ordered_kind, is_unordered_kind,
 };
@@ -52,8 +55,8 @@ pub use object::Object;
 pub use print::push_print;
 pub use registration::Registration;
 pub use rounds::least;
-pub use runner::{Ran, run};
 pub use rule::{Rule, push_facts, push_object, push_objects, push_rule_to, push_rules_to};
+pub use runner::{Ran, run};
 pub use sets::Sets;
 pub use state::State;
 pub use stop::Stop;

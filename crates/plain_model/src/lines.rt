@@ -1,4 +1,5 @@
-// The texts of a single line.
+//! The texts of a single line.
+
 ghost use Rattle.std.specs.Prelude.{◌≡◌, ◌++◌, OnOk, option_map, flat_map, codes, decimal};
 ghost use Rattle.trace_types.specs.Values.{object_of_value};
 ghost use Rattle.trace_types.specs.Printing.{generation_text, check_text, path_text};
@@ -11,7 +12,8 @@ use std::alloc::AllocError;
 
 /// Appends the generation of the object that the value is, or `none` of an immediate.
 pub fn push_generation_of(state: &State, value: Value, text: &mut Vec<u8>) -> Result<(), AllocError>
-    ensures { OnOk result (text.new.items ≡ text.old.items ++ generation_text (object_of_value state.now.graph (meaning value))) }
+    ensures { OnOk result (text.new.items ≡ text.old.items
+        ++ generation_text (object_of_value state.now.graph (meaning value))) }
 {
     push_word(text, b"gen ")?;
     match state.object_of_value(value) {
@@ -47,7 +49,8 @@ pub fn push_path(walk: Option<Vec<u64>>, text: &mut Vec<u8>) -> Result<(), Alloc
 }
 
 fn push_indexes(walk: &[u64], text: &mut Vec<u8>) -> Result<(), AllocError>
-    ensures { OnOk result (text.new.items ≡ text.old.items ++ flat_map (λ index. codes " " ++ decimal index) walk.now) }
+    ensures { OnOk result (text.new.items ≡ text.old.items
+        ++ flat_map (λ index. codes " " ++ decimal index) walk.now) }
 {
     for index in walk {
         push_word(text, b" ")?;

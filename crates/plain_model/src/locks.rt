@@ -1,4 +1,5 @@
-// The commands on locks and notes.
+//! The commands on locks and notes.
+
 ghost use Rattle.std.specs.Prelude.{◌≡◌, not, ◌==◌, IsTrue, OnOk, IfOk, filter, set, slice_index_or};
 ghost use Rattle.std.specs.FinMap.{is_sorted};
 ghost use Rattle.std.specs.Ordering.{nat_cmp};

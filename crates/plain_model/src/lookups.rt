@@ -1,4 +1,5 @@
-// What commands ask of their operands.
+//! What commands ask of their operands.
+
 ghost use Rattle.std.specs.Prelude.{◌≡◌, Ok, Err, MatchResult};
 ghost use Rattle.trace_types.specs.Steps as steps;
 ghost use Rattle.trace_types.specs.Tables as tables;

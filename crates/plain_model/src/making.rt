@@ -1,4 +1,5 @@
-// The commands that make an object.
+//! The commands that make an object.
+
 ghost use Rattle.std.specs.Prelude.{◌≡◌, ◌∷◌, [], IfOk, map, replicate};
 ghost use Rattle.trace_types.specs.States.{with_new, operand_value, silently};
 ghost use Rattle.trace_types.specs.Steps.{greatest_length, not_too_long};
@@ -46,8 +47,8 @@ impl State {
         first: Operand,
         second: Operand,
     ) -> Result<Vec<u8>, Stop>
-        ensures { Answers (silently (with_new self.old line d kind (operand_value self.old first ∷ operand_value self.old second ∷ [])))
-            result self.old self.new }
+        ensures { Answers (silently (with_new self.old line d kind
+            (operand_value self.old first ∷ operand_value self.old second ∷ []))) result self.old self.new }
     {
         let fields = two(alloc, self.operand_value(first), self.operand_value(second))?;
         self.with_new(alloc, line, d, kind, fields)?;
@@ -62,7 +63,8 @@ impl State {
         d: Register,
         value: Operand,
     ) -> Result<Vec<u8>, Stop>
-        ensures { Answers (silently (with_new self.old line d Kind.Boxed (operand_value self.old value ∷ []))) result self.old self.new }
+        ensures { Answers (silently (with_new self.old line d Kind.Boxed (operand_value self.old value ∷ [])))
+            result self.old self.new }
     {
         let fields = one(alloc, self.operand_value(value))?;
         self.with_new(alloc, line, d, Kind::Boxed, fields)?;
@@ -100,8 +102,8 @@ impl State {
         count: u32,
         value: Value,
     ) -> Result<Vec<u8>, Stop>
-        ensures { Answers (not_too_long self.old count (silently (with_new self.old line d kind (replicate count (meaning value)))))
-            result self.old self.new }
+        ensures { Answers (not_too_long self.old count
+            (silently (with_new self.old line d kind (replicate count (meaning value))))) result self.old self.new }
     {
         if count > self.greatest_length() {
             return Err(Stop::Fault(Fault::BadLength));

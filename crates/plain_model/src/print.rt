@@ -1,9 +1,10 @@
-// The printed graph of a value.
-ghost use Rattle.std.specs.Prelude.{◌≡◌, ◌++◌, ◌∷◌, [], Some, IsTrue, IsFalse, map, fold, IfOk, OnOk, flat_map};
+//! The printed graph of a value.
+
+ghost use Rattle.std.specs.Prelude.{◌≡◌, ◌++◌, ◌∷◌, [], Some, IsTrue, map, fold, IfOk, OnOk, flat_map};
 ghost use Rattle.std.specs.List.{list_all};
 ghost use Rattle.trace_types.specs.Values.{object_at, objects_in, queue_values, is_byte, has_bytes};
-ghost use Rattle.trace_types.specs.Printing.{contents, with_number, numbering, numbered_at, value_text, byte_text, content_text};
-ghost use Rattle.trace_types.specs.Printing.{object_line, print_text};
+ghost use Rattle.trace_types.specs.Printing.{contents, with_number, numbering, numbered_at};
+ghost use Rattle.trace_types.specs.Printing.{value_text, byte_text, content_text, object_line, print_text};
 ghost use Rattle.plain_model.specs.Plain.{meaning, queued};
 ghost use Rattle.plain_model.specs.Bytes.{are_bytes, HasBytes};
 
@@ -58,7 +59,8 @@ fn number_contents(state: &State, birth: u32, births: &mut Vec<u32>) -> Result<(
 
 // Gives a number to the object that the value is, where it has none.
 fn number_value(value: Value, births: &mut Vec<u32>) -> Result<(), AllocError>
-    ensures { OnOk result (births.new.items ≡ fold with_number births.old.items (objects_in (meaning value ∷ []))) }
+    ensures { OnOk result (births.new.items
+        ≡ fold with_number births.old.items (objects_in (meaning value ∷ []))) }
 {
     if let Value::Object(birth) = value {
         if !births.contains(&birth) {
@@ -69,7 +71,8 @@ fn number_value(value: Value, births: &mut Vec<u32>) -> Result<(), AllocError>
 }
 
 fn number_values(values: &[Value], births: &mut Vec<u32>) -> Result<(), AllocError>
-    ensures { OnOk result (births.new.items ≡ fold with_number births.old.items (objects_in (map meaning values.now))) }
+    ensures { OnOk result (births.new.items
+        ≡ fold with_number births.old.items (objects_in (map meaning values.now))) }
 {
     for value in values {
         number_value(*value, births)?;
@@ -78,7 +81,8 @@ fn number_values(values: &[Value], births: &mut Vec<u32>) -> Result<(), AllocErr
 }
 
 fn number_queue(queue: &[(Value, u32)], births: &mut Vec<u32>) -> Result<(), AllocError>
-    ensures { OnOk result (births.new.items ≡ fold with_number births.old.items (objects_in (map (λ e. e.0) (map queued queue.now)))) }
+    ensures { OnOk result (births.new.items
+        ≡ fold with_number births.old.items (objects_in (map (λ e. e.0) (map queued queue.now)))) }
 {
     for (value, _) in queue {
         number_value(*value, births)?;
@@ -89,7 +93,8 @@ fn number_queue(queue: &[(Value, u32)], births: &mut Vec<u32>) -> Result<(), All
 impl Object {
     // Gives numbers to the objects in it that have none.
     fn number_contents(&self, births: &mut Vec<u32>) -> Result<(), AllocError>
-        ensures { OnOk result (births.new.items ≡ fold with_number births.old.items (objects_in (contents self.now))) }
+        ensures { OnOk result (births.new.items
+            ≡ fold with_number births.old.items (objects_in (contents self.now))) }
     {
         if is_guardian(self.kind) {
             number_queue(&self.queue, births)
@@ -101,7 +106,8 @@ impl Object {
     // Appends the fields or the queued values, each after a space.
     fn push_contents(&self, births: &[u32], text: &mut Vec<u8>) -> Result<(), AllocError>
         requires { IsTrue (are_bytes self.now) }
-        ensures { OnOk result (text.new.items ≡ text.old.items ++ flat_map (content_text births.now self.now.kind) (contents self.now)) }
+        ensures { OnOk result (text.new.items ≡ text.old.items
+            ++ flat_map (content_text births.now self.now.kind) (contents self.now)) }
     {
         if is_guardian(self.kind) {
             return push_queue(&self.queue, births, text);
@@ -115,7 +121,8 @@ impl Object {
     // Appends the line of the object.
     fn push_line(&self, birth: u32, births: &[u32], text: &mut Vec<u8>) -> Result<(), AllocError>
         requires { IsTrue (are_bytes self.now) }
-        ensures { OnOk result (text.new.items ≡ text.old.items ++ object_line births.now birth (Some self.now)) }
+        ensures { OnOk result (text.new.items ≡ text.old.items
+            ++ object_line births.now birth (Some self.now)) }
     {
         push_value(text, births, Value::Object(birth))?;
         push_word(text, b" ")?;
@@ -131,7 +138,8 @@ impl Object {
 
 // Appends the values, each after a space.
 fn push_values(values: &[Value], births: &[u32], text: &mut Vec<u8>) -> Result<(), AllocError>
-    ensures { OnOk result (text.new.items ≡ text.old.items ++ flat_map (λ v. 32 ∷ value_text births.now v) (map meaning values.now)) }
+    ensures { OnOk result (text.new.items ≡ text.old.items
+        ++ flat_map (λ v. 32 ∷ value_text births.now v) (map meaning values.now)) }
 {
     for value in values {
         push_word(text, b" ")?;
@@ -141,7 +149,8 @@ fn push_values(values: &[Value], births: &[u32], text: &mut Vec<u8>) -> Result<(
 }
 
 fn push_queue(queue: &[(Value, u32)], births: &[u32], text: &mut Vec<u8>) -> Result<(), AllocError>
-    ensures { OnOk result (text.new.items ≡ text.old.items ++ flat_map (λ v. 32 ∷ value_text births.now v) (map (λ e. e.0) (map queued queue.now))) }
+    ensures { OnOk result (text.new.items ≡ text.old.items
+        ++ flat_map (λ v. 32 ∷ value_text births.now v) (map (λ e. e.0) (map queued queue.now))) }
 {
     for (value, _) in queue {
         push_word(text, b" ")?;
@@ -153,7 +162,8 @@ fn push_queue(queue: &[(Value, u32)], births: &[u32], text: &mut Vec<u8>) -> Res
 // Appends the bytes, each after a space.
 fn push_bytes(bytes: &[Value], text: &mut Vec<u8>) -> Result<(), AllocError>
     requires { IsTrue (list_all is_byte (map meaning bytes.now)) }
-    ensures { OnOk result (text.new.items ≡ text.old.items ++ flat_map (λ v. 32 ∷ byte_text v) (map meaning bytes.now)) }
+    ensures { OnOk result (text.new.items ≡ text.old.items
+        ++ flat_map (λ v. 32 ∷ byte_text v) (map meaning bytes.now)) }
 {
     for byte in bytes {
         push_word(text, b" ")?;
@@ -165,7 +175,8 @@ fn push_bytes(bytes: &[Value], text: &mut Vec<u8>) -> Result<(), AllocError>
 // Appends the line of the object of the birth.
 fn push_object(state: &State, birth: u32, births: &[u32], text: &mut Vec<u8>) -> Result<(), AllocError>
     requires { HasBytes state.now.graph }
-    ensures { OnOk result (text.new.items ≡ text.old.items ++ object_line births.now birth (object_at state.now.graph birth)) }
+    ensures { OnOk result (text.new.items ≡ text.old.items
+        ++ object_line births.now birth (object_at state.now.graph birth)) }
 {
     match state.object_at(birth) {
         Some(object) => object.push_line(birth, births, text),
@@ -176,7 +187,8 @@ fn push_object(state: &State, birth: u32, births: &[u32], text: &mut Vec<u8>) ->
 // Appends the lines of the objects of the births.
 fn push_objects(state: &State, births: &[u32], text: &mut Vec<u8>) -> Result<(), AllocError>
     requires { HasBytes state.now.graph }
-    ensures { OnOk result (text.new.items ≡ text.old.items ++ flat_map (λ birth. object_line births.now birth (object_at state.now.graph birth)) births.now) }
+    ensures { OnOk result (text.new.items ≡ text.old.items
+        ++ flat_map (λ birth. object_line births.now birth (object_at state.now.graph birth)) births.now) }
 {
     for birth in births {
         push_object(state, *birth, births, text)?;

@@ -1,4 +1,5 @@
-// The commands on identity tables.
+//! The commands on identity tables.
+
 ghost use Rattle.std.specs.Prelude.{◌≡◌, ◌∷◌, [], position, Option, Some, None, MatchResult, Ok, Err};
 ghost use Rattle.trace_types.specs.States.{silently, with_field, with_new};
 ghost use Rattle.trace_types.specs.Steps.{step};
@@ -62,7 +63,8 @@ impl Object {
 impl State {
     // Whether the value is an object that has the key.
     fn has_key(&self, key: Value, value: Value) -> bool
-        ensures { result ≡ tables.has_key (meaning key) (values.object_of_value self.now.graph (meaning value)) }
+        ensures { result
+            ≡ tables.has_key (meaning key) (values.object_of_value self.now.graph (meaning value)) }
     {
         match self.object_of_value(value) {
             Some(object) => object.has_key(key),
@@ -92,7 +94,8 @@ impl State {
 
     // The least of the slots that holds an entry of the key.
     fn entry_slot(&self, slots: &[Value], key: Value) -> Option<usize>
-        ensures { result ≡ position (λ slot. tables.holds_entry self.now.graph (meaning key) (meaning slot)) slots.now }
+        ensures { result
+            ≡ position (λ slot. tables.holds_entry self.now.graph (meaning key) (meaning slot)) slots.now }
     {
         slots.iter().position(|slot| self.holds_entry(key, *slot))
     }
@@ -120,7 +123,8 @@ impl State {
 
     // The entry's value changes, and register d gets the entry.
     fn put_found(&mut self, alloc: Global, d: Register, entry: Value, value: Value) -> Result<Vec<u8>, Stop>
-        ensures { Answers (entry_changed self.old d (meaning entry) (meaning value)) result self.old self.new }
+        ensures { Answers (entry_changed self.old d (meaning entry) (meaning value))
+            result self.old self.new }
     {
         let (birth, _) = self.object_of(entry)?;
         self.with_field(birth, 1, value);
@@ -142,8 +146,8 @@ impl State {
     ) -> Result<Vec<u8>, Stop>
         requires { ◌≡◌ {A = Option values.Object} (values.object_at self.old.graph line) None }
         ensures { (t : values.Object) → values.object_at self.old.graph table ≡ Some t →
-            Answers (silently (with_field (with_new self.old line d kind (meaning key ∷ meaning value ∷ [])) table t slot (object line)))
-            result self.old self.new }
+            Answers (silently (with_field (with_new self.old line d kind (meaning key ∷ meaning value ∷ []))
+            table t slot (object line))) result self.old self.new }
     {
         let fields = two(alloc, key, value)?;
         self.with_new(alloc, line, d, kind, fields)?;
@@ -164,7 +168,8 @@ impl State {
         value: Operand,
     ) -> Result<Vec<u8>, Stop>
         requires { ◌≡◌ {A = Option values.Object} (values.object_at self.old.graph line) None }
-        ensures { Answers (step self.old line (Command.TablePut d table mode key value)) result self.old self.new }
+        ensures { Answers (step self.old line (Command.TablePut d table mode key value))
+            result self.old self.new }
     {
         let value = self.operand_value(value);
         let (birth, object) = self.table_of(self.register_value(table))?;
@@ -215,7 +220,12 @@ impl State {
 
     /// `tdel`.
     #[tactic(auto, unfolding(trace_types::specs::Steps::step))]
-    pub(crate) fn table_delete(&mut self, alloc: Global, table: Register, key: Operand) -> Result<Vec<u8>, Stop>
+    pub(crate) fn table_delete(
+        &mut self,
+        alloc: Global,
+        table: Register,
+        key: Operand,
+    ) -> Result<Vec<u8>, Stop>
         ensures { Answers (step self.old 0 (Command.TableDel table key)) result self.old self.new }
     {
         let (birth, object) = self.table_of(self.register_value(table))?;

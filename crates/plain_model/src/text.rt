@@ -1,4 +1,5 @@
-// Pieces of printed text, appended to a buffer.
+//! Pieces of printed text, appended to a buffer.
+
 ghost use Rattle.std.specs.Prelude.{◌≡◌, ◌<◌, ◌++◌, ◌∷◌, [], ◌==◌, decimal, position, OnOk, IsTrue};
 ghost use Rattle.std.specs.Char.{digit_char};
 ghost use Rattle.std.specs.Fmt.{signed_decimal};
