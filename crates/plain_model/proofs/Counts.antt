@@ -1,8 +1,6 @@
 -- No count of a state grows by more than one a line.
-use Rattle.std.proofs.Common.{◌≡◌, ℕ, zero, suc, ◌+◌, ◌-◌, ◌<◌, ◌≤◌, Bool, true, false, ◌==◌, ◌&&◌, ◌||◌, cond, not, nat_le, nat_lt, List, [], ◌∷◌, length, map, filter, nat_cmp, All, Option, Some, None, Result, Ok, Err, refl, sym, ap, subst, ◌∙◌, arith, slice_index_or, IsTrue}
+use Rattle.std.proofs.Common.{◌≡◌, ℕ, zero, suc, ◌+◌, ◌-◌, ◌<◌, Bool, true, false, ◌==◌, ◌&&◌, ◌||◌, cond, not, nat_le, nat_lt, List, [], ◌∷◌, length, All, Option, Some, None, Result, Ok, Err, refl, sym, subst, arith, slice_index_or, IsTrue}
 use Rattle.std.specs.List.{AllByRecursion}
-use Rattle.std.specs.FinMap.{find, put}
-use Rattle.std.specs.FinMap.Entries.{where_key}
 use Rattle.std.proofs.lemmas.List.Elements.{All-from_recursion, recursion_from_All}
 use Rattle.trace_types.specs.declared.fault.Fault.{Fault}
 use Rattle.trace_types.specs.declared.kind.Kind.{Kind}

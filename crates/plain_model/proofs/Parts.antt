@@ -1,5 +1,5 @@
 -- Changes of a part of a state, and slots of a table.
-use Rattle.std.proofs.Common.{◌≡◌, ℕ, List, [], ◌∷◌, ◌+◌, zero, suc, ◌<◌, true, false, ◌==◌, cond, not, map, length, get_or, position, replicate, nat_lt, set, nat_cmp, IsTrue, Bool, Option, Some, None, refl, sym, ap, subst, ◌∙◌, arith}
+use Rattle.std.proofs.Common.{◌≡◌, ℕ, List, [], ◌∷◌, ◌+◌, zero, suc, ◌<◌, true, false, ◌==◌, cond, not, map, get_or, position, replicate, nat_lt, set, nat_cmp, IsTrue, Bool, Option, Some, None, refl, sym, ap, subst, ◌∙◌, arith}
 use Rattle.std.specs.FinMap.{is_sorted, put}
 use Rattle.std.specs.FinMap.{find}
 use Rattle.std.specs.List.{position_or_len, AllByRecursion, list_all}

@@ -1,9 +1,9 @@
 -- The first walks of each length, from each object.
-use Rattle.std.proofs.Common.{◌≡◌, ℕ, zero, suc, ◌+◌, ◌-◌, ◌<◌, ◌≤◌, add-one, arith, Bool, true, false, ◌==◌, cond, List, [], ◌∷◌, ◌++◌, map, filter, flat_map, length, nat_cmp, Option, Some, None, refl, sym, ap, subst, ◌∙◌}
+use Rattle.std.proofs.Common.{◌≡◌, ℕ, suc, ◌+◌, ◌-◌, ◌<◌, ◌≤◌, add-one, arith, true, false, ◌==◌, cond, List, [], ◌∷◌, ◌++◌, map, filter, flat_map, length, nat_cmp, Option, Some, None, refl, sym, ap, ◌∙◌}
 use Rattle.std.specs.Prelude.{option_map}
 use Rattle.std.specs.FinMap.{find}
 use Rattle.std.proofs.lemmas.Bool.{eqb-true}
-use Rattle.trace_types.specs.Values.{Value, fixnum, nil, true_value, false_value, bwp, object, Object, Graph, object_at, objects_in}
+use Rattle.trace_types.specs.Values.{Value, fixnum, nil, true_value, false_value, bwp, object, Object, Graph, object_at}
 use Rattle.trace_types.specs.Finder.{indexed, steps_at, walks, first_or, shortest}
 use Rattle.trace_types.specs.Rules.{has}
 use Rattle.plain_model.specs.Plain.{Alike}

@@ -8,4 +8,4 @@ abbrev pub generation_line : Graph → ℕ → List ℕ
 generation_line graph g =
     if length (of_generation g graph) == 0 then []
     else codes "g" ++ generation_word g ++ codes " " ++ decimal (length (of_generation g graph)) ++ codes " "
-        ++ decimal (words_of (of_generation g graph)) ++ 10 ∷ []
+    ++ decimal (words_of (of_generation g graph)) ++ 10 ∷ []

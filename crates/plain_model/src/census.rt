@@ -42,7 +42,12 @@ fn push_generations(
 }
 
 // Appends the line of a generation, where it has objects.
-fn push_line(alloc: Global, state: &State, generation: u8, text: &mut Vec<u8>) -> Result<(), AllocError>
+fn push_line(
+    alloc: Global,
+    state: &State,
+    generation: u8,
+    text: &mut Vec<u8>,
+) -> Result<(), AllocError>
     ensures { OnOk result (text.new.items ≡ text.old.items ++ generation_line state.now.graph generation) }
 {
     let sizes = sizes_in(alloc, state.graph(), generation)?;

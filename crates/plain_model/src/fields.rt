@@ -31,7 +31,12 @@ impl Object {
 impl State {
     /// `mov`.
     #[tactic(auto, unfolding(trace_types::specs::Steps::step))]
-    pub(crate) fn mov(&mut self, alloc: Global, d: Register, value: Operand) -> Result<Vec<u8>, Stop>
+    pub(crate) fn mov(
+        &mut self,
+        alloc: Global,
+        d: Register,
+        value: Operand,
+    ) -> Result<Vec<u8>, Stop>
         ensures { Answers (step self.old 0 (Command.Mov d value)) result self.old self.new }
     {
         self.with_register(d, self.operand_value(value));

@@ -96,7 +96,12 @@ impl State {
 
     /// `take`.
     #[tactic(auto, unfolding(trace_types::specs::Steps::step))]
-    pub(crate) fn take(&mut self, alloc: Global, d: Register, guardian: Register) -> Result<Vec<u8>, Stop>
+    pub(crate) fn take(
+        &mut self,
+        alloc: Global,
+        d: Register,
+        guardian: Register,
+    ) -> Result<Vec<u8>, Stop>
         ensures { Answers (step self.old 0 (Command.Take d guardian)) result self.old self.new }
     {
         let (birth, object) = self.guardian_of(self.register_value(guardian))?;

@@ -89,7 +89,11 @@ impl State {
     fn greatest_length(&self) -> u32
         ensures { result ≡ greatest_length self.now }
     {
-        if self.version == 2 { 4_000_000 } else { 1_000_000 }
+        if self.version == 2 {
+            4_000_000
+        } else {
+            1_000_000
+        }
     }
 
     /// Makes an object of so many equal fields.

@@ -173,7 +173,12 @@ fn push_bytes(bytes: &[Value], text: &mut Vec<u8>) -> Result<(), AllocError>
 }
 
 // Appends the line of the object of the birth.
-fn push_object(state: &State, birth: u32, births: &[u32], text: &mut Vec<u8>) -> Result<(), AllocError>
+fn push_object(
+    state: &State,
+    birth: u32,
+    births: &[u32],
+    text: &mut Vec<u8>,
+) -> Result<(), AllocError>
     requires { HasBytes state.now.graph }
     ensures { OnOk result (text.new.items ≡ text.old.items
         ++ object_line births.now birth (object_at state.now.graph birth)) }

@@ -128,15 +128,15 @@ mod tests {
             generations: 3,
             max_lines: 100,
         };
-        let trace = b"version 2\nthread 3\nguard r0\ncons r1 1 nil\nreg r0 r1\nvec r2 2 nil\ntput r3 r2 e r2 -7\n\
+        let trace =
+            b"version 2\nthread 3\nguard r0\ncons r1 1 nil\nreg r0 r1\nvec r2 2 nil\ntput r3 r2 e r2 -7\n\
             bytes r4 2 171\nset r4 1 9\nibytes r5 1 0\nnote 7 r5\nlock r4\nunlock r4\nmov r1 nil\ncollect 0 1 1\n\
             take r1 r0\ntget r6 r2 r2\nget r7 r4 0\nprint r1\nprint r4\ncheck 7 r5\ncensus\ngen r2\n\
             path r2 r3\nsize r2\ntdel r2 r2\ncollect\nget r1 r1 2\nprint r1\n";
         let ran = run(rt.alloc(), limits, trace)?;
         assert_eq!(rt;
             ran.text.as_slice(),
-            b"= #0\n#0 pair g1 t3 1 nil\n= #0\n#0 bytes g1 t3 ab 09\ncheck 7 kept\ng1 6 16\ngen 1\npath 0\nsize 2 6\n"
-                .as_slice()
+            b"= #0\n#0 pair g1 t3 1 nil\n= #0\n#0 bytes g1 t3 ab 09\ncheck 7 kept\ng1 6 16\ngen 1\npath 0\nsize 2 6\n".as_slice()
         );
         assert_eq!(rt; ran.stop, Some((28, Fault::BadIndex)));
         Ok(())

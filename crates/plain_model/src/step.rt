@@ -145,11 +145,7 @@ impl State {
     /// Performs the command of a line, and gives the text that it prints.
     ///
     /// A fault comes by kinds, indexes, lengths and the state, and leaves the state as it was.
-    #[tactic(
-        auto,
-        using(crate::proofs::Parts::bytes_of_well_formed, crate::proofs::Parts::line_is_new),
-        unfolding(trace_types::specs::Steps::step)
-    )]
+    #[tactic(auto, using(crate::proofs::Parts::bytes_of_well_formed, crate::proofs::Parts::line_is_new), unfolding(trace_types::specs::Steps::step))]
     pub fn step(&mut self, alloc: Global, line: u32, command: &Command) -> Result<Vec<u8>, Stop>
         requires well_formed { IsWellFormed self.old }
         requires next { IsNext self.old line }
@@ -163,22 +159,52 @@ impl State {
             Command::Eph { d, key, value } => self.make_pair(alloc, line, d, Kind::Eph, key, value),
             Command::MakeBox { d, value } => self.make_box(alloc, line, d, value),
             Command::Vector { d, length, value } => {
-                self.make_copies(alloc, line, d, Kind::Vector, length, self.operand_value(value))
+                self.make_copies(
+                    alloc,
+                    line,
+                    d,
+                    Kind::Vector,
+                    length,
+                    self.operand_value(value),
+                )
             }
             Command::Bytes { d, length, byte } => {
-                self.make_copies(alloc, line, d, Kind::Bytes, length, Value::Fixnum(i64::from(byte)))
+                self.make_copies(
+                    alloc,
+                    line,
+                    d,
+                    Kind::Bytes,
+                    length,
+                    Value::Fixnum(i64::from(byte)),
+                )
             }
             Command::ImmVector { d, length, value } => {
-                self.make_copies(alloc, line, d, Kind::ImmVector, length, self.operand_value(value))
+                self.make_copies(
+                    alloc,
+                    line,
+                    d,
+                    Kind::ImmVector,
+                    length,
+                    self.operand_value(value),
+                )
             }
             Command::ImmBytes { d, length, byte } => {
-                self.make_copies(alloc, line, d, Kind::ImmBytes, length, Value::Fixnum(i64::from(byte)))
+                self.make_copies(
+                    alloc,
+                    line,
+                    d,
+                    Kind::ImmBytes,
+                    length,
+                    Value::Fixnum(i64::from(byte)),
+                )
             }
             Command::Guard { d } => self.make_guardian(alloc, line, d, Kind::Guard),
             Command::OrderedGuard { d } => self.make_guardian(alloc, line, d, Kind::OrderedGuard),
-            Command::Reg { guardian, object, representative } => {
-                self.register(alloc, line, guardian, object, representative)
-            }
+            Command::Reg {
+                guardian,
+                object,
+                representative,
+            } => { self.register(alloc, line, guardian, object, representative) }
             Command::Take { d, guardian } => self.take(alloc, d, guardian),
             Command::Get { d, s, index } => self.get(alloc, d, s, index),
             Command::Set { s, index, value } => self.set(alloc, s, index, value),
@@ -192,9 +218,13 @@ impl State {
             Command::Census => self.census(alloc),
             Command::Gen { value } => self.generation(alloc, value),
             Command::Version => self.set_version(alloc, line),
-            Command::TablePut { d, table, mode, key, value } => {
-                self.table_put(alloc, line, d, table, mode, key, value)
-            }
+            Command::TablePut {
+                d,
+                table,
+                mode,
+                key,
+                value,
+            } => { self.table_put(alloc, line, d, table, mode, key, value) }
             Command::TableGet { d, table, key } => self.table_get(alloc, d, table, key),
             Command::TableDel { table, key } => self.table_delete(alloc, table, key),
             Command::Path { from, to } => self.path(alloc, from, to),

@@ -122,7 +122,13 @@ impl State {
     }
 
     // The entry's value changes, and register d gets the entry.
-    fn put_found(&mut self, alloc: Global, d: Register, entry: Value, value: Value) -> Result<Vec<u8>, Stop>
+    fn put_found(
+        &mut self,
+        alloc: Global,
+        d: Register,
+        entry: Value,
+        value: Value,
+    ) -> Result<Vec<u8>, Stop>
         ensures { Answers (entry_changed self.old d (meaning entry) (meaning value))
             result self.old self.new }
     {
@@ -180,7 +186,16 @@ impl State {
                 self.put_found(alloc, d, entry, value)
             }
             None => match self.free_in(object) {
-                Some(slot) => self.put_new(alloc, line, d, entry_kind(mode), key, value, birth, slot),
+                Some(slot) => self.put_new(
+                    alloc,
+                    line,
+                    d,
+                    entry_kind(mode),
+                    key,
+                    value,
+                    birth,
+                    slot,
+                ),
                 None => Err(Stop::Fault(Fault::TableFull)),
             },
         }

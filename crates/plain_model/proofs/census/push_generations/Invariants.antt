@@ -1,8 +1,4 @@
-use Rattle.std.proofs.Common.{◌≡◌, ◌++◌, ◌∷◌, take, map, fold, filter, flat_map, sum}
-use Rattle.trace_types.specs.Values.{objects_in, object_at, size_of}
-use Rattle.trace_types.specs.Rules.{has}
-use Rattle.trace_types.specs.Printing.{with_number, numbered, value_text, byte_text, object_line, of_generation}
-use Rattle.plain_model.specs.Plain.{meaning}
+use Rattle.std.proofs.Common.{◌≡◌, ◌++◌, take, flat_map}
 use Rattle.plain_model.specs.Census.{generation_line}
 use Rattle.plain_model.proofs.census.push_generations.Given as goal
 

@@ -1,4 +1,4 @@
-use Rattle.std.proofs.Common.{◌≡◌, ◌<◌, ◌≤◌, length, nat_cmp, Some, sym, ap, ◌∙◌, arith}
+use Rattle.std.proofs.Common.{◌<◌, length, nat_cmp, Some, sym, ap, ◌∙◌, arith}
 use Rattle.std.specs.FinMap.{find}
 use Rattle.trace_types.specs.Finder.{path}
 use Rattle.plain_model.proofs.Walking.{longer_found, path_here, path_later, path_nowhere}

@@ -10,8 +10,8 @@ pub returns : goal.returns
 unfolding reach
 returns c =
     let all : c.push_strong_rules.new.rules.items
-        ≡ facts (c.args.birth ∷ []) ++ flat_map (λ entry. strong_rules entry.0 entry.1) c.args.state.now.graph =
-        c.in_ok-push_strong_rules.ensures ∙ rw (c.graph.ensures, c.in_ok-push_facts.ensures, c.new-rules.ensures.items) refl in
+    ≡ facts (c.args.birth ∷ []) ++ flat_map (λ entry. strong_rules entry.0 entry.1) c.args.state.now.graph =
+    c.in_ok-push_strong_rules.ensures ∙ rw (c.graph.ensures, c.in_ok-push_facts.ensures, c.new-rules.ensures.items) refl in
     c.in_ok-sizes.ensures ∙ ap (map (λ (entry : ℕ × Object). size_of entry.1.kind entry.1.fields))
     (rw c.graph-2.ensures (filter_alike c.in_ok-set.set
     (least (facts (c.args.birth ∷ []) ++ flat_map (λ entry. strong_rules entry.0 entry.1) c.args.state.now.graph))

@@ -1,9 +1,7 @@
-use Rattle.std.proofs.Common.{◌≡◌, ◌++◌, ◌∷◌, take, map, fold, filter, flat_map, sum}
-use Rattle.trace_types.specs.Values.{objects_in, object_at, size_of}
-use Rattle.trace_types.specs.Rules.{has}
-use Rattle.trace_types.specs.Printing.{with_number, numbered, value_text, byte_text, object_line, of_generation}
+use Rattle.std.proofs.Common.{◌≡◌, take, map, fold}
+use Rattle.trace_types.specs.Values.{objects_in}
+use Rattle.trace_types.specs.Printing.{with_number}
 use Rattle.plain_model.specs.Plain.{queued}
-use Rattle.plain_model.specs.Census.{generation_line}
 use Rattle.plain_model.proofs.print.number_queue.Given as goal
 
 abbrev pub invariant-loop-value : goal.invariant-loop-value

@@ -1,4 +1,3 @@
-use Rattle.std.proofs.Common.{arith}
 use Rattle.plain_model.proofs.Printing.{byte_here}
 use Rattle.plain_model.proofs.print.push_bytes.Goals as goal
 
