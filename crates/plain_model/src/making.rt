@@ -1,8 +1,9 @@
 //! The commands that make an object.
 
-ghost use Rattle.std.specs.Prelude.{◌≡◌, ◌∷◌, [], IfOk, map, replicate};
+ghost use Rattle.std.specs.Prelude.{◌≡◌, ◌∷◌, [], pos, IfOk, map, replicate};
 ghost use Rattle.trace_types.specs.States.{with_new, operand_value, silently};
 ghost use Rattle.trace_types.specs.Steps.{greatest_length, not_too_long};
+ghost use Rattle.trace_types.specs.Values.{fixnum};
 ghost use Rattle.plain_model.specs.Plain.{meaning};
 ghost use Rattle.plain_model.specs.Stepping.{Answers};
 
@@ -96,8 +97,8 @@ impl State {
         }
     }
 
-    /// Makes an object of so many equal fields.
-    pub(crate) fn make_copies(
+    // Makes an object of so many equal fields.
+    fn make_copies(
         &mut self,
         alloc: Global,
         line: u32,
@@ -115,5 +116,38 @@ impl State {
         let fields = copies(alloc, value, count as usize)?;
         self.with_new(alloc, line, d, kind, fields)?;
         Ok(Vec::new(alloc))
+    }
+
+    /// Makes a vector of so many equal values.
+    pub(crate) fn make_vector(
+        &mut self,
+        alloc: Global,
+        line: u32,
+        d: Register,
+        kind: Kind,
+        count: u32,
+        value: Operand,
+    ) -> Result<Vec<u8>, Stop>
+        ensures { Answers (not_too_long self.old count
+            (silently (with_new self.old line d kind (replicate count (operand_value self.old value)))))
+            result self.old self.new }
+    {
+        self.make_copies(alloc, line, d, kind, count, self.operand_value(value))
+    }
+
+    /// Makes so many equal bytes.
+    pub(crate) fn make_bytes(
+        &mut self,
+        alloc: Global,
+        line: u32,
+        d: Register,
+        kind: Kind,
+        count: u32,
+        byte: u8,
+    ) -> Result<Vec<u8>, Stop>
+        ensures { Answers (not_too_long self.old count
+            (silently (with_new self.old line d kind (replicate count (fixnum (pos byte)))))) result self.old self.new }
+    {
+        self.make_copies(alloc, line, d, kind, count, Value::Fixnum(i64::from(byte)))
     }
 }

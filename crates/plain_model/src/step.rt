@@ -13,7 +13,6 @@ use crate::lines::{push_generation_of, push_path};
 use crate::print::push_print;
 use crate::state::State;
 use crate::stop::Stop;
-use crate::value::Value;
 use std::alloc::Global;
 use trace_types::{CollectArgs, Command, Fault, Kind, Operand, Register};
 
@@ -142,9 +141,11 @@ impl State {
         }
     }
 
-    /// Performs the command of a line, and gives the text that it prints.
+    /// Performs the command of a line, and gives the text that it prints. The line's number is above every number
+    /// in the state, and a new object is born on it.
     ///
-    /// A fault comes by kinds, indexes, lengths and the state, and leaves the state as it was.
+    /// A fault comes by kinds, indexes, lengths and the state, and leaves the state as it was. Where memory runs out,
+    /// the state may be any state.
     #[tactic(auto, using(crate::proofs::Parts::bytes_of_well_formed, crate::proofs::Parts::line_is_new), unfolding(trace_types::specs::Steps::step))]
     pub fn step(&mut self, alloc: Global, line: u32, command: &Command) -> Result<Vec<u8>, Stop>
         requires well_formed { IsWellFormed self.old }
@@ -159,44 +160,16 @@ impl State {
             Command::Eph { d, key, value } => self.make_pair(alloc, line, d, Kind::Eph, key, value),
             Command::MakeBox { d, value } => self.make_box(alloc, line, d, value),
             Command::Vector { d, length, value } => {
-                self.make_copies(
-                    alloc,
-                    line,
-                    d,
-                    Kind::Vector,
-                    length,
-                    self.operand_value(value),
-                )
+                self.make_vector(alloc, line, d, Kind::Vector, length, value)
             }
             Command::Bytes { d, length, byte } => {
-                self.make_copies(
-                    alloc,
-                    line,
-                    d,
-                    Kind::Bytes,
-                    length,
-                    Value::Fixnum(i64::from(byte)),
-                )
+                self.make_bytes(alloc, line, d, Kind::Bytes, length, byte)
             }
             Command::ImmVector { d, length, value } => {
-                self.make_copies(
-                    alloc,
-                    line,
-                    d,
-                    Kind::ImmVector,
-                    length,
-                    self.operand_value(value),
-                )
+                self.make_vector(alloc, line, d, Kind::ImmVector, length, value)
             }
             Command::ImmBytes { d, length, byte } => {
-                self.make_copies(
-                    alloc,
-                    line,
-                    d,
-                    Kind::ImmBytes,
-                    length,
-                    Value::Fixnum(i64::from(byte)),
-                )
+                self.make_bytes(alloc, line, d, Kind::ImmBytes, length, byte)
             }
             Command::Guard { d } => self.make_guardian(alloc, line, d, Kind::Guard),
             Command::OrderedGuard { d } => self.make_guardian(alloc, line, d, Kind::OrderedGuard),
@@ -204,7 +177,7 @@ impl State {
                 guardian,
                 object,
                 representative,
-            } => { self.register(alloc, line, guardian, object, representative) }
+            } => self.register(alloc, line, guardian, object, representative),
             Command::Take { d, guardian } => self.take(alloc, d, guardian),
             Command::Get { d, s, index } => self.get(alloc, d, s, index),
             Command::Set { s, index, value } => self.set(alloc, s, index, value),
@@ -224,7 +197,7 @@ impl State {
                 mode,
                 key,
                 value,
-            } => { self.table_put(alloc, line, d, table, mode, key, value) }
+            } => self.table_put(alloc, line, d, table, mode, key, value),
             Command::TableGet { d, table, key } => self.table_get(alloc, d, table, key),
             Command::TableDel { table, key } => self.table_delete(alloc, table, key),
             Command::Path { from, to } => self.path(alloc, from, to),

@@ -16,10 +16,11 @@ enum Name {
 }
 
 /// What the words have set so far.
-#[derive(Clone, Copy)]
+#[derive(Drop)]
 struct Chosen {
     generations: Option<u32>,
     max_lines: Option<u32>,
+    ghost in_range: { IfSome generations (λ g. (1 ≤ g) × (g ≤ 7)) × IfSome max_lines (λ n. n ≤ 1073741823) },
 }
 
 fn name_of(text: &str) -> Option<Name> {
@@ -67,19 +68,14 @@ impl Chosen {
     }
 
     // The limits, where what isn't set is 3 generations and the most lines.
-    fn limits(self) -> Option<Limits>
-        ensures { IfSome result (λ l. (1 ≤ l.generations) × (l.generations ≤ 7) × (l.max_lines ≤ 1073741823)) }
+    fn limits(self) -> Limits
+        ensures { (1 ≤ result.generations) × (result.generations ≤ 7) × (result.max_lines ≤ 1073741823) }
     {
-        let generations = self.generations.unwrap_or(3);
-        let max_lines = self.max_lines.unwrap_or(GREATEST_LINE);
-        if generations < 1 || generations > GREATEST_GENERATION || max_lines > GREATEST_LINE {
-            return None;
-        }
-        Some(Limits {
+        Limits {
             sweepers: 1,
-            generations: generations as u8,
-            max_lines,
-        })
+            generations: self.generations.unwrap_or(3) as u8,
+            max_lines: self.max_lines.unwrap_or(GREATEST_LINE),
+        }
     }
 }
 
@@ -107,6 +103,6 @@ pub fn read_limits(words: &[String]) -> Option<Limits>
     }
     match waiting {
         Some(_) => None,
-        None => chosen.limits(),
+        None => Some(chosen.limits()),
     }
 }
