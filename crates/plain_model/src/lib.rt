@@ -4,10 +4,10 @@
 //! the plain, slow program whose contracts are the definitions of `trace_types`, word for word. What it prints
 //! is compared with worked cases and with other programs. No program for users stands on it.
 //!
-//! In contracts a `State`, an `Object`, a `Registration`, a `Rule` and `Arguments` are those of the definitions,
-//! and `Births` a list; a `Value` and a `Note` mean one by `meaning` and `note_meaning`. Invariant of `State`:
-//! 4,096 registers, 256 notes, and the objects stand in ascending order of births. Each call that gives a
-//! `Result` takes memory, and no other does; refused, it may have changed what it was to change in part.
+//! In contracts a `State`, an `Object`, a `Registration` and a `Rule` are those of the definitions; a `Value`
+//! and a `Note` mean one by `meaning` and `note_meaning`. Invariant of `State`: 4,096 registers, 256 notes, and
+//! the objects stand in ascending order of births. Each call that gives a `Result` takes memory, and no other
+//! does; where one is refused, a state that it was to change may be any state.
 #![tactic(auto)]
 
 mod arguments;
