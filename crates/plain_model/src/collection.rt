@@ -244,7 +244,8 @@ mod tests {
     use std::test::Fail;
     use trace_types::Register;
 
-    // A pair that refers to another is given first, and the other one by the next collection.
+    // A pair that refers to another is given first, and the other one by the next collection, once the queue of the
+    // guardian no longer has the first. (The case `ordered-first-the-one-that-refers` of conformance/.)
     #[test]
     fn ordered_guardian_gives_the_one_that_refers_first(rt: HostRuntime) -> Result<(), Fail> {
         let alloc = rt.alloc();

@@ -1,4 +1,4 @@
-//! Lists of entries by birth, in ascending order of births.
+//! Lists of entries by birth.
 
 ghost use Rattle.std.specs.Prelude.{◌≡◌, ◌<◌, IfOk, OnOk, OnErr, MatchOption, Some, None, length, slice_index_or, IsTrue};
 ghost use Rattle.std.specs.FinMap.{find, put, is_sorted};
@@ -7,7 +7,7 @@ ghost use Rattle.plain_model.specs.Plain.{place, HasEntry};
 
 use std::alloc::AllocError;
 
-// Where the entry of this birth stands.
+// Where the first entry of this birth stands, in a list of any order.
 pub(crate) fn index_of<X>(entries: &[(u32, X)], birth: u32) -> Option<usize>
     ensures { MatchOption result (find nat_cmp birth entries.now ≡ None) (λ i. HasEntry entries.now i birth) }
 {

@@ -19,6 +19,7 @@ use std::alloc::{AllocError, Global};
 /// The four sets of a collection of generations up to `cg`. A set that was not reached yet is empty.
 #[derive(Drop)]
 pub struct Sets {
+    /// The oldest generation that is collected.
     pub cg: u8,
     /// A: what is reached from the roots.
     pub accessible: Births,
