@@ -1,6 +1,6 @@
 //! The words of the command line.
 
-ghost use Rattle.std.specs.Prelude.{◌≤◌, IfSome};
+ghost use Rattle.std.specs.Prelude.{◌≤◌, unwrap_or, IfSome};
 
 use trace_types::Limits;
 
@@ -20,7 +20,7 @@ enum Name {
 struct Chosen {
     generations: Option<u32>,
     max_lines: Option<u32>,
-    ghost in_range: { IfSome generations (λ g. (1 ≤ g) × (g ≤ 7)) × IfSome max_lines (λ n. n ≤ 1073741823) },
+    ghost in_range: { (1 ≤ unwrap_or generations 3) × (unwrap_or generations 3 ≤ 7) × (unwrap_or max_lines 1073741823 ≤ 1073741823) },
 }
 
 fn name_of(text: &str) -> Option<Name> {
@@ -96,7 +96,10 @@ pub fn read_limits(words: &[String]) -> Option<Limits>
                 waiting = None;
             }
             None => match word.as_str().split_once('=') {
-                Some((name, value)) => chosen = chosen.with(name_of(name)?, value)?,
+                Some((text, value)) => {
+                    let name = name_of(text)?;
+                    chosen = chosen.with(name, value)?;
+                }
                 None => waiting = Some(name_of(word.as_str())?),
             },
         }
