@@ -40,7 +40,8 @@ def program(name):
     crate = os.path.join(TOP, "crates", name)
     path = os.path.join(crate, "out", name)
     if is_old(path):
-        done = subprocess.run(["rt", "run"], cwd=crate, stdin=subprocess.DEVNULL, stdout=subprocess.PIPE, stderr=subprocess.STDOUT)
+        done = subprocess.run(["rt", "run"], cwd=crate, stdin=subprocess.DEVNULL, stdout=subprocess.PIPE,
+                              stderr=subprocess.STDOUT)
         if done.returncode != 0:
             sys.stderr.buffer.write(done.stdout)
             sys.exit(f"conformance: {name} was not proved or not built")

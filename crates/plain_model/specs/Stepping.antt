@@ -8,8 +8,8 @@ use Rattle.trace_types.specs.Values.{Value, object}
 use Rattle.plain_model.specs.declared.stop.Stop.{Stop}
 use Rattle.plain_model.specs.declared.stop.Stop.TheVariants.{Fault as IsFault, NoMemory}
 
--- A refused command has the fault of the answer and leaves the state as it was. Where memory ran out nothing is
--- said.
+-- A refused command has the fault of the answer and leaves the state as it was. Where memory ran out, nothing
+-- is said.
 abbrev pub Refuses : Answer → Stop → State → State → Type 0
 Refuses answer (IsFault f) old new = (answer ≡ Err f) × (new ≡ old)
 Refuses answer NoMemory old new = Unit {0}

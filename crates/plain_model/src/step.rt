@@ -113,7 +113,8 @@ impl State {
 
     // `collect` with arguments.
     fn collect_explicit(&mut self, alloc: Global, arguments: Arguments) -> Result<Vec<u8>, Stop>
-        ensures { Answers (collected self.old (CollectArgs.Explicit arguments.cg arguments.least arguments.greatest))
+        ensures { Answers
+            (collected self.old (CollectArgs.Explicit arguments.cg arguments.least arguments.greatest))
             result self.old self.new }
     {
         if !arguments.are_allowed(self.version, self.oldest) {
@@ -141,11 +142,11 @@ impl State {
         }
     }
 
-    /// Performs the command of a line, and gives the text that it prints. The line's number is above every number
-    /// in the state, and a new object is born on it.
+    /// Performs the command of a line, and gives the text that it prints. The line's number is above every
+    /// number in the state, and a new object is born on it.
     ///
-    /// A fault comes by kinds, indexes, lengths and the state, and leaves the state as it was. Where memory runs out,
-    /// the state may be any state.
+    /// A fault comes by kinds, indexes, lengths and the state, and leaves the state as it was. Where memory runs
+    /// out, the state may be any state.
     #[tactic(auto, using(crate::proofs::Parts::bytes_of_well_formed, crate::proofs::Parts::line_is_new), unfolding(trace_types::specs::Steps::step))]
     pub fn step(&mut self, alloc: Global, line: u32, command: &Command) -> Result<Vec<u8>, Stop>
         requires well_formed { IsWellFormed self.old }

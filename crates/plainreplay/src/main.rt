@@ -48,7 +48,8 @@ impl Failure {
     }
 }
 
-// The words after the program's name. Where one of them isn't UTF-8, a single word that is out of form stands for all.
+// The words after the program's name. Where one of them isn't UTF-8, a single word that is out of form stands for
+// all.
 fn collect_words(rt: &HostRuntime) -> io::Result<Vec<String>> {
     let mut words = Vec::new(rt.alloc());
     match env::args(rt) {

@@ -1,6 +1,7 @@
 //! The words of the command line.
 
-ghost use Rattle.std.specs.Prelude.{◌≤◌, unwrap_or, IfSome};
+ghost use Rattle.std.specs.Prelude.{◌≤◌, IfSome};
+ghost use Rattle.plainreplay.specs.Words.{AreInRange};
 
 use trace_types::Limits;
 
@@ -20,7 +21,7 @@ enum Name {
 struct Chosen {
     generations: Option<u32>,
     max_lines: Option<u32>,
-    ghost in_range: { (1 ≤ unwrap_or generations 3) × (unwrap_or generations 3 ≤ 7) × (unwrap_or max_lines 1073741823 ≤ 1073741823) },
+    ghost in_range: { AreInRange generations max_lines },
 }
 
 fn name_of(text: &str) -> Option<Name> {
@@ -80,7 +81,8 @@ impl Chosen {
 }
 
 /// The limits that the words set: `--generations G` with G from 1 to 7 and `--max-lines N` with N from 1 to
-/// 1,073,741,823, each at most once and as two words or as `--name=value`. `None` where they are not in this form.
+/// 1,073,741,823, each at most once and as two words or as `--name=value`. `None` where they are not in this
+/// form.
 pub fn read_limits(words: &[String]) -> Option<Limits>
     ensures { IfSome result (λ l. (1 ≤ l.generations) × (l.generations ≤ 7) × (l.max_lines ≤ 1073741823)) }
 {
