@@ -1,0 +1,12 @@
+pub mod Collected
+pub mod Concluding
+pub mod Phases
+pub mod Placing
+pub mod Powers
+pub mod States
+pub mod Printing
+pub mod Parts
+pub mod Walking
+pub mod Counts
+pub mod Lining
+pub mod Running
