@@ -14,7 +14,8 @@ packed_word byte count = from_le_bytes w64 (replicate count byte ++ replicate (8
 
 -- so many bytes, eight to a word
 abbrev pub packed : ℕ → ℕ → List ℕ
-packed byte n = replicate (n / 8) (packed_word byte 8) ++ (if n % 8 == 0 then [] else packed_word byte (n % 8) ∷ [])
+packed byte n =
+    replicate (n / 8) (packed_word byte 8) ++ (if n % 8 == 0 then [] else packed_word byte (n % 8) ∷ [])
 
 -- the object that is made on this line
 abbrev pub start_of : ℕ → Shape → Start
