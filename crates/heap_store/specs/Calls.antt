@@ -1,12 +1,12 @@
 -- What the calls of a heap do.
-use Rattle.std.specs.Prelude.{◌≡◌, ◌≢◌, ℕ, true, false, List, slice_index_or, Result, Ok, Err}
+use Rattle.std.specs.Prelude.{◌≡◌, ℕ, true, List, slice_index_or, Result, Ok, Err}
 use Rattle.gc_words.specs.declared.value.Value.{Value}
 use Rattle.gc_words.specs.declared.value.Value.TheVariants as word
 use Rattle.trace_types.specs.declared.operand.Operand.{Operand}
 use Rattle.trace_types.specs.declared.operand.Operand.TheVariants.{Reg, Fixnum, Nil, True, False}
 use Rattle.trace_types.specs.States.{State, Answer}
 use Rattle.heap_store.specs.declared.error.HeapError.{HeapError}
-use Rattle.heap_store.specs.declared.error.HeapError.TheVariants.{Failed, NoMemory, Fault as IsFault}
+use Rattle.heap_store.specs.declared.error.HeapError.TheVariants.{NoMemory, Fault as IsFault}
 use Rattle.heap_store.specs.HeapView.{HeapView}
 use Rattle.heap_store.specs.Changes.{HaveSoundCards}
 use Rattle.heap_store.specs.Stands.{Stands}

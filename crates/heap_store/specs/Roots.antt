@@ -1,5 +1,5 @@
 -- What a heap keeps beside its objects: registers, locks, notes and registrations, and how they read.
-use Rattle.std.specs.Prelude.{◌≡◌, ℕ, ◌+◌, ◌<◌, min, nat_lt, List, [], ◌∷◌, ◌++◌, map, length, flat_map, slice_index_or, IsTrue, IsSome, Option, Some, None, if◌then◌else◌}
+use Rattle.std.specs.Prelude.{◌≡◌, ℕ, ◌<◌, min, nat_lt, List, [], ◌∷◌, map, length, flat_map, slice_index_or, IsTrue, IsSome, Option, Some, None, if◌then◌else◌}
 use Rattle.std.specs.List.{AllByRecursion}
 use Rattle.std.specs.FinMap.{find}
 use Rattle.std.specs.Ordering.{nat_cmp}

@@ -1,7 +1,6 @@
 -- New objects by what they are to hold.
 use Rattle.std.specs.Prelude.{◌≡◌, ℕ, ◌+◌, ◌-◌, ◌/◌, ◌%◌, ◌==◌, List, [], ◌∷◌, ◌++◌, replicate, if◌then◌else◌}
 use Rattle.std.specs.Int.{w64, from_le_bytes}
-use Rattle.trace_types.specs.declared.kind.Kind.{Kind}
 use Rattle.segment.specs.Layout.{words_after, HasLength}
 use Rattle.segment.specs.Segments.{Start}
 use Rattle.heap_store.specs.declared.shape.Shape.{Shape}
