@@ -1,13 +1,13 @@
 -- The cards of a heap stay sound.
-use Rattle.std.proofs.Common.{◌≡◌, ◌≢◌, ℕ, ◌+◌, ◌<◌, ◌≤◌, Bool, true, false, List, [], ◌∷◌, length, set, slice_get, IsSome, Option, Some, None, option_map, refl, sym, ◌∙◌, ap, subst, arith, inl, inr, ◌⊎◌}
+use Rattle.std.proofs.Common.{◌≡◌, ◌≢◌, ℕ, set, slice_get, IsSome, Option, Some, None, option_map, sym, ◌∙◌, ap, subst, inl, inr}
 use Rattle.std.specs.FinMap.{get}
 use Rattle.std.proofs.lemmas.Bool.{cases_eq, false≢true}
 use Rattle.trace_types.specs.States.{State}
 use Rattle.segment.specs.Segments.{Start}
-use Rattle.territory.specs.Territories.{TerritoryView, Refers, card_byte, AreCardsSound, IsToldMore}
-use Rattle.heap_store.specs.Starts.{Starts, lasting}
+use Rattle.territory.specs.Territories.{TerritoryView, AreCardsSound, IsToldMore}
+use Rattle.heap_store.specs.Starts.{lasting}
 use Rattle.heap_store.specs.HeapView.{HeapView, starts_in, starts_of}
-use Rattle.heap_store.specs.Changes.{IsStartChanged, IsMade, generation_at, HaveSoundCards}
+use Rattle.heap_store.specs.Changes.{IsStartChanged, generation_at, HaveSoundCards}
 use Rattle.heap_store.specs.Stands.{Stands}
 use Rattle.heap_store.proofs.Kept.{is_some, same_generation}
 use Rattle.heap_store.proofs.Territories.{start_before, start_after, other_starts, this_territory, slice_get-set_other}

@@ -1,17 +1,17 @@
 -- What stands after one start, no queue cell, was added or changed.
-use Rattle.std.proofs.Common.{◌≡◌, ◌≢◌, ℕ, zero, suc, ◌+◌, ◌<◌, ◌≤◌, ◌==◌, Bool, true, false, cond, List, [], ◌∷◌, Contains, IsTrue, IsSome, Option, Some, None, nat_cmp, refl, sym, ◌∙◌, ap, subst, arith, inl, inr, ◌⊎◌}
+use Rattle.std.proofs.Common.{◌≡◌, ◌≢◌, ℕ, true, false, cond, List, [], Contains, IsTrue, IsSome, Option, Some, None, nat_cmp, refl, sym, ◌∙◌, ap, subst, arith, inl, inr, ◌⊎◌}
 use Rattle.std.specs.FinMap.{find, put}
 use Rattle.std.proofs.lemmas.Bool.{cases_eq, cases_Bool, false≢true, eq-eqb, ne_eqb}
 use Rattle.std.proofs.lemmas.Option.{same_Some}
 use Rattle.trace_types.specs.declared.kind.Kind.{Kind}
-use Rattle.trace_types.specs.Values.{Object, Graph, object_at, is_guardian}
+use Rattle.trace_types.specs.Values.{Graph, object_at, is_guardian}
 use Rattle.trace_types.proofs.Graphs.{object_at-put}
 use Rattle.segment.specs.Segments.{Start}
 use Rattle.heap_store.specs.Starts.{Starts, is_cell, is_object, birth_of, object_of, IsLaidOut, IsClosed, lasting, Keeps, IsChanged}
 use Rattle.heap_store.specs.Queues.{Queue, HasQueue, IsQueued}
-use Rattle.heap_store.specs.Graphs.{IsInGraph, HasPlace, GraphStands}
+use Rattle.heap_store.specs.Graphs.{IsInGraph, GraphStands}
 use Rattle.heap_store.specs.Roots.{LocksStand}
-use Rattle.heap_store.proofs.Kept.{some_is, is_some, object_some, same_object, same_birth, laid_out_kept, object_kept, queue_kept, birth_kept, place_kept}
+use Rattle.heap_store.proofs.Kept.{is_some, same_object, same_birth, laid_out_kept, object_kept, queue_kept, birth_kept, place_kept}
 
 birth_part : (x y : Start) → lasting (Some x) ≡ lasting (Some y) → x.birth ≡ y.birth
 birth_part x y e = same_birth (Some x) (Some y) e

@@ -1,18 +1,17 @@
 -- What the calls that look at no object make of the state.
-use Rattle.std.proofs.Common.{◌≡◌, ℕ, ◌<◌, ◌≤◌, ◌==◌, Bool, true, false, cond, List, [], ◌∷◌, set, IsTrue, Option, Some, None, Ok, Err, refl, sym, ◌∙◌, ap, subst, arith, inl, inr, ◌⊎◌}
+use Rattle.std.proofs.Common.{◌≡◌, ℕ, ◌<◌, ◌≤◌, ◌==◌, false, cond, [], set, IsTrue, Ok, Err, refl, sym, ◌∙◌, ap, subst, arith, inl, inr}
 use Rattle.gc_words.specs.declared.value.Value.{Value}
 use Rattle.trace_types.specs.declared.operand.Operand.{Operand}
 use Rattle.trace_types.specs.declared.command.Command.TheVariants.{Thread, Mov, Version}
 use Rattle.trace_types.specs.States as states
 use Rattle.trace_types.specs.States.{State, with_register}
 use Rattle.trace_types.specs.Steps.{step}
-use Rattle.trace_types.specs.WellFormed.{greatest_line, operand_fits, IsWellFormedTo}
+use Rattle.trace_types.specs.WellFormed.{operand_fits, IsWellFormedTo}
 use Rattle.trace_types.proofs.Steadiness.{step_well_formed}
 use Rattle.trace_types.specs.declared.fault.Fault.{Fault}
 use Rattle.heap_store.specs.declared.error.HeapError.{HeapError}
-use Rattle.heap_store.specs.Starts.{read}
-use Rattle.heap_store.specs.HeapView.{HeapView, starts_of}
-use Rattle.heap_store.specs.Stands.{IsLoose, Stands}
+use Rattle.heap_store.specs.HeapView.{HeapView}
+use Rattle.heap_store.specs.Stands.{Stands}
 use Rattle.heap_store.specs.Calls.{Obeys, IsValid, operand_value}
 use Rattle.heap_store.proofs.Standing.{well_formed_to, next_line, register_changed}
 use Rattle.heap_store.proofs.Operands.{operand_there, operand_read}

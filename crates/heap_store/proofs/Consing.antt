@@ -1,11 +1,10 @@
 -- What a new object makes of the state, by command.
-use Rattle.std.proofs.Common.{◌≡◌, ℕ, zero, suc, ◌==◌, ◌+◌, ◌/◌, ◌<◌, ◌≤◌, Bool, true, false, cond, pos, nat_le, List, [], ◌∷◌, length, map, replicate, get_or, IsTrue, Option, Some, None, Result, Ok, Err, OnOk, OnErr, refl, sym, ◌∙◌, ap, subst, arith}
+use Rattle.std.proofs.Common.{◌≡◌, ℕ, zero, suc, ◌==◌, ◌<◌, ◌≤◌, true, cond, pos, List, [], ◌∷◌, map, replicate, IsTrue, Some, Result, Ok, Err, OnOk, OnErr, refl, sym, ◌∙◌, ap, subst, arith}
 use Rattle.std.specs.List.{AllByRecursion}
 use Rattle.std.proofs.lemmas.Bool.{false≢true, le-leb, lt-leb}
 use Rattle.std.proofs.lemmas.List.{length-replicate}
 use Rattle.gc_words.specs.declared.value.Value.{Value}
 use Rattle.gc_words.specs.Word.{value_of}
-use Rattle.trace_types.specs.declared.kind.Kind.{Kind}
 use Rattle.trace_types.specs.declared.kind.Kind.TheVariants as kind
 use Rattle.trace_types.specs.declared.fault.Fault.TheVariants.{BadLength}
 use Rattle.trace_types.specs.declared.operand.Operand.{Operand}

@@ -1,6 +1,5 @@
 -- A new object in a register of a heap.
-use Rattle.std.proofs.Common.{◌≡◌, ℕ, ◌<◌, ◌≤◌, Bool, true, false, List, [], ◌∷◌, length, set, get_or, slice_get, IsTrue, Option, Some, None, refl, sym, ◌∙◌, ap, subst, arith}
-use Rattle.std.specs.FinMap.{get}
+use Rattle.std.proofs.Common.{◌≡◌, ℕ, ◌<◌, ◌≤◌, false, set, get_or, slice_get, Some, refl, sym, ◌∙◌, ap, subst, arith}
 use Rattle.std.proofs.lemmas.Bool.{false≢true}
 use Rattle.std.proofs.lemmas.Option.{slice_get_read}
 use Rattle.gc_words.specs.declared.value.Value.TheVariants as word
@@ -9,7 +8,7 @@ use Rattle.trace_types.specs.States.{State, with_new}
 use Rattle.trace_types.specs.WellFormed.{greatest_line}
 use Rattle.segment.specs.Segments.{Start}
 use Rattle.territory.specs.Territories.{TerritoryView}
-use Rattle.heap_store.specs.Starts.{Starts, is_cell, fields_of, IsLaidOut, Keeps}
+use Rattle.heap_store.specs.Starts.{is_cell, fields_of, IsLaidOut, Keeps}
 use Rattle.heap_store.specs.HeapView.{HeapView, starts_in, starts_of}
 use Rattle.heap_store.specs.Changes.{IsMade, HaveSoundCards}
 use Rattle.heap_store.specs.Shapes.{start_of}

@@ -4,19 +4,17 @@ use Rattle.std.specs.List.{AllByRecursion}
 use Rattle.std.specs.Int.{to_le_bytes}
 use Rattle.std.proofs.lemmas.Int.{to_z-of_z}
 use Rattle.std.proofs.lemmas.List.FromFn.{length-map-range_with_len}
-use Rattle.std.proofs.lemmas.Bool.{false≢true, lt-ltb, le-ltb, cases_Bool, cases_lt}
+use Rattle.std.proofs.lemmas.Bool.{false≢true, lt-ltb, le-ltb}
 use Rattle.gc_words.specs.declared.value.Value.{Value}
 use Rattle.gc_words.specs.declared.value.Value.TheVariants as word
-use Rattle.gc_words.specs.Word.{value_of, IsFixnum}
+use Rattle.gc_words.specs.Word.{value_of}
 use Rattle.trace_types.specs.declared.kind.Kind.{Kind}
 use Rattle.trace_types.specs.declared.kind.Kind.TheVariants as kind
 use Rattle.trace_types.specs.declared.fault.Fault.{Fault}
 use Rattle.trace_types.specs.declared.command.Command.TheVariants.{Get}
 use Rattle.trace_types.specs.Faults.{◌>>=◌}
-use Rattle.trace_types.specs.Values as values
 use Rattle.trace_types.specs.Values.{fixnum, nil, object, Object, object_at, field_at, has_bytes, is_guardian}
 use Rattle.trace_types.specs.States.{State, Answer, silently, register_value, with_register}
-use Rattle.trace_types.specs.Steps as steps
 use Rattle.trace_types.specs.Steps.{found_object, fielded_of, within, step}
 use Rattle.segment.specs.Layout.{words_after, HasLength}
 use Rattle.segment.specs.Segments.{Start}
@@ -27,10 +25,9 @@ use Rattle.heap_store.specs.HeapView.{HeapView, starts_of}
 use Rattle.heap_store.specs.Stands.{Stands}
 use Rattle.heap_store.specs.Calls.{Obeys, IsValid}
 use Rattle.heap_store.specs.Fields.{place_in, IsFielded, HasNoFields, or_nil, field_in, word_index}
-use Rattle.heap_store.proofs.Kept.{at_index, some_is}
 use Rattle.heap_store.proofs.Bytes.{byte_of_bytes, bytes_small}
 use Rattle.heap_store.proofs.Making.{fields_by, fields_count}
-use Rattle.heap_store.proofs.Operands.{read_at, register_there, register_read}
+use Rattle.heap_store.proofs.Operands.{register_read}
 use Rattle.heap_store.proofs.Setting.{object_found}
 use Rattle.heap_store.proofs.Standing.{register_changed}
 

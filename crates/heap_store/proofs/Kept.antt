@@ -1,8 +1,6 @@
 -- What reads as before where each start keeps its place, kind, birth and generation.
-use Rattle.std.proofs.Common.{◌≡◌, ◌≢◌, ℕ, zero, suc, get_or, ◌+◌, ◌<◌, ◌≤◌, Bool, true, false, not, ◌&&◌, List, [], ◌∷◌, ◌++◌, length, map, min, flat_map, IsTrue, IsSome, Option, Some, None, option_map, refl, sym, ◌∙◌, ap, subst, arith, inl, inr, ◌⊎◌}
+use Rattle.std.proofs.Common.{◌≡◌, ℕ, zero, suc, get_or, Bool, true, false, not, List, [], ◌∷◌, map, min, flat_map, IsTrue, IsSome, Option, Some, None, refl, sym, ◌∙◌, ap, subst}
 use Rattle.std.specs.List.{AllByRecursion}
-use Rattle.std.specs.FinMap.{FinMap, get, find}
-use Rattle.std.specs.Ordering.{nat_cmp}
 use Rattle.std.proofs.lemmas.Bool.{false≢true}
 use Rattle.gc_words.specs.declared.value.Value.{Value}
 use Rattle.gc_words.specs.declared.value.Value.TheVariants as word
@@ -19,9 +17,9 @@ use Rattle.trace_types.proofs.Meeting.{each_flat_map}
 use Rattle.segment.specs.Segments.{Start}
 use Rattle.heap_store.specs.declared.notes.Noted.{Noted}
 use Rattle.heap_store.specs.declared.notes.Noted.TheVariants as note
-use Rattle.heap_store.specs.Starts.{Starts, is_cell, is_object, birth_of, has_values, read, read_option, read_word, IsThere, IsThereOption, IsWordThere, bytes_of, fields_of, object_of, IsLaidOut, IsClosed, lasting, Keeps}
+use Rattle.heap_store.specs.Starts.{Starts, is_cell, is_object, birth_of, has_values, read, read_option, read_word, IsThere, IsThereOption, IsWordThere, fields_of, object_of, IsLaidOut, lasting, Keeps}
 use Rattle.heap_store.specs.Queues.{Queue, first_word_of, IsCell, AreCells, HasQueue}
-use Rattle.heap_store.specs.Roots.{RegistersStand, LocksStand, read_note, IsNoteThere, NotesStand, read_registration, IsRegistrationThere, by_line, generation_of, generation_of_value, level_of, RegistryStands}
+use Rattle.heap_store.specs.Roots.{RegistersStand, read_note, IsNoteThere, NotesStand, read_registration, IsRegistrationThere, by_line, generation_of, generation_of_value, level_of, RegistryStands}
 
 -- ---- options
 

@@ -1,5 +1,5 @@
 -- A new object: its fields fit a graph, and it stands for a new object in a register.
-use Rattle.std.proofs.Common.{◌≡◌, ◌≢◌, ℕ, zero, suc, ◌+◌, ◌/◌, ◌<◌, ◌≤◌, ◌==◌, pos, Bool, true, false, not, ◌&&◌, ◌||◌, cond, List, [], ◌∷◌, ◌++◌, flat_map, slice_get, length, map, set, replicate, get_or, IsTrue, IsSome, nat_le, Option, Some, None, nat_cmp, refl, sym, ◌∙◌, ap, subst, arith, inl, inr, ◌⊎◌}
+use Rattle.std.proofs.Common.{◌≡◌, ◌≢◌, ℕ, ◌+◌, ◌<◌, ◌≤◌, ◌==◌, pos, true, false, not, ◌||◌, cond, List, [], ◌∷◌, ◌++◌, flat_map, slice_get, length, map, set, IsTrue, Option, Some, None, nat_cmp, refl, sym, ◌∙◌, ap, subst, arith, inl, inr}
 use Rattle.std.specs.List.{AllByRecursion, list_all, range_with_len}
 use Rattle.std.specs.FinMap.{get, find}
 use Rattle.std.specs.Cmp.{unsigned_tied}
@@ -23,7 +23,7 @@ use Rattle.trace_types.proofs.Named.{objects_both, names_parts}
 use Rattle.trace_types.proofs.Stepping.{queue_lines, new_well_formed}
 use Rattle.segment.specs.Layout.{words_after, HasLength}
 use Rattle.segment.specs.Segments.{Start}
-use Rattle.heap_store.specs.Starts.{Starts, is_cell, is_object, has_values, read, read_option, read_word, IsThere, IsThereOption, IsWordThere, word_bytes, byte_at, bytes_of, fields_of, object_of, birth_of, IsLaidOut, Keeps, IsChanged}
+use Rattle.heap_store.specs.Starts.{Starts, is_cell, is_object, has_values, read_option, read_word, IsThereOption, IsWordThere, byte_at, bytes_of, fields_of, object_of, birth_of, IsLaidOut, Keeps, IsChanged}
 use Rattle.heap_store.specs.Queues.{nil_word}
 use Rattle.territory.specs.Territories.{TerritoryView}
 use Rattle.heap_store.specs.HeapView.{HeapView, starts_in, starts_of}

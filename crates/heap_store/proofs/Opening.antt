@@ -1,7 +1,7 @@
 -- An empty heap stands for the state in which a trace begins.
-use Rattle.std.proofs.Common.{◌≡◌, ◌≢◌, ℕ, zero, suc, ◌+◌, ◌<◌, ◌≤◌, Bool, true, false, List, [], ◌∷◌, ◌++◌, ◌-◌, length, map, replicate, slice_get, get_or, IsTrue, IsSome, Option, Some, None, refl, sym, ◌∙◌, ap, subst, arith, inl, inr, ◌⊎◌}
+use Rattle.std.proofs.Common.{◌≡◌, ℕ, zero, suc, ◌+◌, ◌<◌, ◌≤◌, false, List, [], ◌∷◌, ◌++◌, ◌-◌, map, replicate, slice_get, get_or, IsTrue, Option, Some, None, refl, sym, ◌∙◌, ap, subst, arith, inl, inr}
 use Rattle.std.specs.List.{AllByRecursion}
-use Rattle.std.specs.FinMap.{get, get-empty, find}
+use Rattle.std.specs.FinMap.{get, get-empty}
 use Rattle.std.specs.Ordering.{nat_cmp}
 use Rattle.std.proofs.lemmas.Bool.{cases_lt, false≢true}
 use Rattle.std.proofs.lemmas.List.{length-append, get_or_past, get_or_append_left, get_or-append_right}
@@ -10,20 +10,17 @@ use Rattle.gc_words.specs.declared.value.Value.{Value}
 use Rattle.gc_words.specs.declared.value.Value.TheVariants as word
 use Rattle.gc_words.specs.declared.registration.Registration.{Registration}
 use Rattle.gc_words.specs.Layout.{thread_of}
-use Rattle.trace_types.specs.Values as values
-use Rattle.trace_types.specs.States as states
-use Rattle.trace_types.specs.States.{State, opening}
+use Rattle.trace_types.specs.States.{opening}
 use Rattle.trace_types.specs.WellFormed.{IsWellFormedTo}
 use Rattle.trace_types.proofs.Opening.{opening_well_formed}
 use Rattle.segment.specs.Segments.{Start}
 use Rattle.territory.specs.Territories.{SegmentView, TerritoryView, segment_at, no_territory}
 use Rattle.heap_store.specs.declared.notes.Noted.{Noted}
 use Rattle.heap_store.specs.declared.notes.Noted.TheVariants as note
-use Rattle.heap_store.specs.Starts.{Starts, is_object, read, IsThere}
+use Rattle.heap_store.specs.Starts.{is_object, read, IsThere}
 use Rattle.heap_store.specs.Roots.{level_of, read_note, IsNoteThere}
 use Rattle.heap_store.specs.HeapView.{HeapView, start_in, starts_in}
-use Rattle.heap_store.specs.Stands.{AreSettled, Stands}
-use Rattle.heap_store.specs.Calls.{IsValid}
+use Rattle.heap_store.specs.Stands.{Stands}
 use Rattle.heap_store.specs.Registries.{level_count}
 use Rattle.heap_store.specs.Opening.{AreNew}
 use Rattle.heap_store.specs.Changes.{HaveSoundCards}

@@ -1,20 +1,18 @@
 -- What the calls of a territory do to its starts and its cards.
-use Rattle.std.proofs.Common.{◌≡◌, ◌≢◌, ℕ, zero, suc, ◌+◌, ◌<◌, ◌≤◌, ◌==◌, Bool, true, false, cond, List, [], ◌∷◌, ◌++◌, length, set, drop, replicate, get_or, IsSome, IfSome, Option, Some, None, option_map, nat_cmp, refl, sym, ◌∙◌, ap, subst, arith, inl, inr, ◌⊎◌, get_or-set_same, get_or-set_other}
+use Rattle.std.proofs.Common.{◌≡◌, ◌≢◌, ℕ, Bool, true, false, cond, List, length, set, IsSome, IfSome, Option, Some, None, option_map, nat_cmp, refl, sym, ◌∙◌, ap, subst, arith, inl, inr, get_or-set_same, get_or-set_other}
 use Rattle.std.specs.Ordering.{eq_by_cmp}
 use Rattle.std.specs.Cmp.{nat_cmp_total}
 use Rattle.std.specs.FinMap.{FinMap, get, insert, get-insert}
 use Rattle.std.proofs.lemmas.Bool.{cases_eq, cases_lt, false≢true}
 use Rattle.std.proofs.lemmas.Bool.Decides.{nat_tests}
 use Rattle.std.proofs.lemmas.List.{length-set, get_or_past}
-use Rattle.gc_words.specs.declared.value.Value.TheVariants as word
-use Rattle.gc_words.specs.Word.{value_of}
 use Rattle.gc_words.specs.Layout.{thread_of, segment_of}
 use Rattle.trace_types.specs.declared.kind.Kind.{Kind}
 use Rattle.segment.specs.declared.space.Space.{Space}
 use Rattle.segment.specs.Segments.{Start}
-use Rattle.territory.specs.Territories.{SegmentView, TerritoryView, segment_at, words_of, put_start, fresh_start, with_card, with_word, needs_mark, IsPlaced, IsToldMore, TellsLower, AreCardsSound, has_values}
+use Rattle.territory.specs.Territories.{SegmentView, TerritoryView, segment_at, put_start, fresh_start, with_card, with_word, needs_mark, IsPlaced, IsToldMore, TellsLower, AreCardsSound}
 use Rattle.heap_store.specs.Starts.{lasting}
-use Rattle.heap_store.specs.Changes.{HasNoFrom, IsStartChanged, IsMade, IsRewritten, new_start, filled}
+use Rattle.heap_store.specs.Changes.{HasNoFrom, IsStartChanged, IsMade, IsRewritten}
 
 at_key : (m : FinMap nat_cmp Start) (k : ℕ) (v : Start) → get (insert m k v) k ≡ Some v
 at_key m k v = let t : eq_by_cmp nat_cmp k k ≡ true = grind (arith, nat_tests) in get-insert nat_cmp_total m k v k ∙ ap (λ b. cond b (Some v) (get m k)) t

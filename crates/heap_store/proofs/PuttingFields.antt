@@ -1,5 +1,5 @@
 -- A byte put into a byte object.
-use Rattle.std.proofs.Common.{◌≡◌, ℕ, ◌+◌, ◌/◌, ◌%◌, ◌<◌, ◌≤◌, pos, Bool, true, false, cond, List, [], ◌∷◌, length, set, get_or, IsSome, IfSome, IsTrue, Option, Some, None, refl, sym, ◌∙◌, ap, subst, arith}
+use Rattle.std.proofs.Common.{◌≡◌, ℕ, ◌/◌, ◌%◌, ◌<◌, pos, true, cond, List, set, get_or, IsSome, IfSome, Option, Some, None, refl, sym, ◌∙◌, ap, arith}
 use Rattle.std.specs.FinMap.{get}
 use Rattle.std.specs.Int.{w64, to_le_bytes, from_le_bytes}
 use Rattle.std.proofs.lemmas.Bool.{false≢true}
@@ -9,7 +9,7 @@ use Rattle.trace_types.specs.Values.{has_bytes}
 use Rattle.segment.specs.Segments.{Start}
 use Rattle.territory.specs.Territories.{TerritoryView, words_of, with_word, TellsLower, AreCardsSound}
 use Rattle.heap_store.specs.Starts.{word_bytes}
-use Rattle.heap_store.specs.Fields.{word_index, IsPut}
+use Rattle.heap_store.specs.Fields.{IsPut}
 use Rattle.heap_store.proofs.Bytes.{bytes_set}
 
 -- the bytes of the new word

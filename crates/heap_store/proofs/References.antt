@@ -1,23 +1,23 @@
 -- Each word of an object or cell that refers to a place refers to one where something starts.
-use Rattle.std.proofs.Common.{◌≡◌, ◌≢◌, ℕ, zero, suc, ◌+◌, ◌*◌, ◌/◌, ◌%◌, ◌<◌, ◌≤◌, ◌==◌, Bool, true, false, not, cond, List, [], ◌∷◌, length, get_or, slice_get, Contains, IsTrue, IsSome, Option, Some, None, refl, sym, ◌∙◌, ap, subst, arith, inl, inr, ◌⊎◌}
+use Rattle.std.proofs.Common.{◌≡◌, ℕ, zero, suc, ◌+◌, ◌*◌, ◌/◌, ◌%◌, ◌<◌, ◌==◌, Bool, true, false, cond, List, [], ◌∷◌, length, get_or, slice_get, Contains, IsTrue, IsSome, Option, Some, None, refl, sym, ◌∙◌, ap, subst, arith, inl, inr}
 use Rattle.std.specs.List.{AllByRecursion}
 use Rattle.std.specs.FinMap.{get}
-use Rattle.std.proofs.lemmas.Bool.{cases_eq, cases_Bool, false≢true, eq-eqb}
+use Rattle.std.proofs.lemmas.Bool.{false≢true}
 use Rattle.gc_words.specs.declared.value.Value.{Value}
 use Rattle.gc_words.specs.declared.value.Value.TheVariants as word
-use Rattle.gc_words.specs.Word.{value_of, word_of, object_of as object_word}
+use Rattle.gc_words.specs.Word.{value_of, object_of as object_word}
 use Rattle.gc_words.specs.Layout.{thread_of}
 use Rattle.trace_types.specs.declared.kind.Kind.{Kind}
 use Rattle.trace_types.specs.declared.kind.Kind.TheVariants as kind
-use Rattle.trace_types.specs.Values.{is_guardian, has_bytes}
+use Rattle.trace_types.specs.Values.{is_guardian}
 use Rattle.trace_types.specs.States.{State}
 use Rattle.trace_types.proofs.Least.{each_weaker}
 use Rattle.segment.specs.Segments.{Start}
 use Rattle.territory.specs.Territories as territory
 use Rattle.territory.specs.Territories.{TerritoryView, Refers}
-use Rattle.heap_store.specs.Starts.{Starts, is_cell, is_object, has_values, IsThere, IsThereOption, IsWordThere}
-use Rattle.heap_store.specs.Queues.{Queue, nil_word, place_word, first_word_of, last_word_of, IsCell, AreCells, HasQueue, IsQueued}
-use Rattle.heap_store.specs.HeapView.{HeapView, start_in, starts_in, starts_of}
+use Rattle.heap_store.specs.Starts.{Starts, is_cell, has_values, IsThere, IsThereOption, IsWordThere}
+use Rattle.heap_store.specs.Queues.{Queue, nil_word, place_word, first_word_of, last_word_of, IsCell, AreCells, HasQueue}
+use Rattle.heap_store.specs.HeapView.{HeapView, start_in, starts_of}
 use Rattle.heap_store.specs.Stands.{IsLoose, Stands}
 use Rattle.heap_store.proofs.Kept.{is_some, object_some}
 

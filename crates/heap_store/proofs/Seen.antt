@@ -1,5 +1,5 @@
 -- The invariant of a heap, as its view has it.
-use Rattle.std.proofs.Common.{◌≡◌, Bool, true, false, refl, sym, ◌∙◌, ap, subst}
+use Rattle.std.proofs.Common.{◌≡◌, false, subst}
 use Rattle.heap_store.specs.HeapView.{HeapView}
 use Rattle.heap_store.specs.Calls.{IsValid}
 

@@ -1,9 +1,8 @@
 -- `set`: what a field put makes of the state.
-use Rattle.std.proofs.Common.{◌≡◌, ◌≢◌, ℕ, zero, suc, ◌+◌, ◌/◌, ◌%◌, ◌<◌, ◌≤◌, ◌^◌, pos, negsuc, Bool, true, false, not, ◌&&◌, cond, nat_lt, List, [], ◌∷◌, length, set, slice_get, get_or, IsTrue, IsSome, IfSome, Option, Some, None, option_map, Result, Ok, Err, refl, sym, ◌∙◌, ap, subst, arith, inl, inr, ◌⊎◌}
+use Rattle.std.proofs.Common.{◌≡◌, ℕ, ◌/◌, ◌<◌, ◌≤◌, pos, negsuc, Bool, true, false, not, ◌&&◌, cond, nat_lt, List, [], length, set, slice_get, IsTrue, Option, Some, None, option_map, Ok, Err, refl, sym, ◌∙◌, ap, subst, arith}
 use Rattle.std.specs.FinMap.{get}
-use Rattle.std.proofs.lemmas.Bool.{false≢true, lt-ltb, le-ltb, cases_Bool, cases_lt}
-use Rattle.std.proofs.lemmas.List.{set-get_or}
-use Rattle.std.proofs.lemmas.Option.{same_Some, slice_get_read, get_or_from_slice_get}
+use Rattle.std.proofs.lemmas.Bool.{false≢true, lt-ltb}
+use Rattle.std.proofs.lemmas.Option.{same_Some}
 use Rattle.gc_words.specs.declared.value.Value.{Value}
 use Rattle.gc_words.specs.declared.value.Value.TheVariants as word
 use Rattle.gc_words.specs.Word.{value_of}
@@ -18,19 +17,18 @@ use Rattle.trace_types.specs.Values as values
 use Rattle.trace_types.specs.Values.{fixnum, Object, is_byte, is_value, has_bytes, is_guardian}
 use Rattle.trace_types.specs.States as states
 use Rattle.trace_types.specs.States.{State, Answer, silently, register_value, with_field}
-use Rattle.trace_types.specs.Steps.{fielded_of, within, step}
+use Rattle.trace_types.specs.Steps.{within, step}
 use Rattle.trace_types.specs.WellFormed.{operand_fits}
-use Rattle.trace_types.proofs.Answering.{no_objects}
 use Rattle.segment.specs.Segments.{Start}
 use Rattle.territory.specs.Territories as territory
 use Rattle.territory.specs.Territories.{TerritoryView, TellsLower, AreCardsSound}
 use Rattle.heap_store.specs.declared.error.HeapError.{HeapError}
-use Rattle.heap_store.specs.Starts.{Starts, is_cell, has_values, read, read_word, read_option, IsThere, IsThereOption, IsWordThere, word_bytes, fields_of, object_of, IsLaidOut, Keeps}
+use Rattle.heap_store.specs.Starts.{Starts, is_cell, has_values, read, read_option, IsThere, IsThereOption, fields_of, object_of, IsLaidOut, Keeps}
 use Rattle.heap_store.specs.HeapView.{HeapView, start_in, starts_in, starts_of}
 use Rattle.heap_store.specs.Changes.{IsStartChanged, generation_at, HaveSoundCards}
 use Rattle.heap_store.specs.Stands.{Stands}
-use Rattle.heap_store.specs.Calls.{Obeys, IsLeft, IsValid, operand_value}
-use Rattle.heap_store.specs.Fields.{HasNoFields, IsFielded, word_index, is_byte_word, generation_or_255, refers_of, put_fault, IsPut, Puts}
+use Rattle.heap_store.specs.Calls.{Obeys, IsValid, operand_value}
+use Rattle.heap_store.specs.Fields.{IsFielded, word_index, is_byte_word, generation_or_255, refers_of, put_fault, IsPut}
 use Rattle.heap_store.proofs.Changed.{keeps}
 use Rattle.heap_store.proofs.Territories.{is_changed}
 use Rattle.heap_store.proofs.Putting.{put_changed}

@@ -1,5 +1,5 @@
 -- `set`, for a heap that is seen so.
-use Rattle.std.proofs.Common.{◌≡◌, ℕ, ◌<◌, ◌≤◌, Bool, true, false, List, length, set, slice_get, get_or, IsTrue, IsSome, IfSome, Option, Some, None, Result, Ok, Err, refl, sym, ◌∙◌, ap, subst, arith}
+use Rattle.std.proofs.Common.{◌≡◌, ℕ, ◌<◌, false, length, set, slice_get, get_or, IsTrue, IsSome, IfSome, Some, Ok, Err, refl, sym, ◌∙◌, ap, subst}
 use Rattle.std.specs.FinMap.{get}
 use Rattle.std.proofs.lemmas.List.{set-get_or}
 use Rattle.std.proofs.lemmas.Option.{slice_get_read}
@@ -13,7 +13,6 @@ use Rattle.trace_types.specs.States as states
 use Rattle.trace_types.specs.States.{State}
 use Rattle.trace_types.specs.Steps.{step}
 use Rattle.trace_types.specs.WellFormed.{operand_fits}
-use Rattle.segment.specs.Segments.{Start}
 use Rattle.territory.specs.Territories.{TerritoryView}
 use Rattle.heap_store.specs.declared.error.HeapError.{HeapError}
 use Rattle.heap_store.specs.Starts.{Keeps}

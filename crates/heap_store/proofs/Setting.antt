@@ -1,24 +1,21 @@
 -- A field of an object changed: a word of a value kind, or a byte.
-use Rattle.std.proofs.Common.{◌≡◌, ◌≢◌, ℕ, zero, suc, ◌+◌, ◌/◌, ◌%◌, ◌<◌, ◌≤◌, ◌==◌, pos, Bool, true, false, not, ◌&&◌, ◌||◌, cond, List, [], ◌∷◌, length, map, set, slice_get, get_or, IsTrue, IsSome, Option, Some, None, nat_cmp, refl, sym, ◌∙◌, ap, subst, arith, inl, inr, ◌⊎◌}
+use Rattle.std.proofs.Common.{◌≡◌, ℕ, zero, suc, ◌/◌, ◌%◌, ◌<◌, pos, false, cond, List, [], ◌∷◌, length, map, set, slice_get, get_or, IsTrue, Some, None, sym, ◌∙◌, ap, subst, arith}
 use Rattle.std.specs.List.{AllByRecursion}
 use Rattle.std.specs.FinMap.{get}
 use Rattle.std.proofs.lemmas.Bool.{false≢true}
 use Rattle.std.proofs.lemmas.List.{length-set, map-set}
-use Rattle.gc_words.specs.declared.value.Value.{Value}
-use Rattle.gc_words.specs.Word.{value_of}
 use Rattle.gc_words.specs.Layout.{thread_of}
 use Rattle.trace_types.specs.declared.kind.Kind.{Kind}
 use Rattle.trace_types.specs.declared.kind.Kind.TheVariants as kind
 use Rattle.trace_types.specs.Values as values
 use Rattle.trace_types.specs.Values.{fixnum, is_value, is_byte, has_bytes, is_guardian, objects_in, Object, object_at}
 use Rattle.trace_types.specs.States.{State, with_field, with_object}
-use Rattle.trace_types.specs.Rules.{has, ◌⊆◌}
+use Rattle.trace_types.specs.Rules.{◌⊆◌}
 use Rattle.trace_types.specs.WellFormed.{births, IsWellFormedTo}
-use Rattle.trace_types.proofs.Answering.{no_objects, field_set_well_formed}
+use Rattle.trace_types.proofs.Answering.{field_set_well_formed}
 use Rattle.segment.specs.Segments.{Start}
 use Rattle.territory.specs.Territories.{TerritoryView}
-use Rattle.heap_store.specs.Starts.{Starts, is_cell, has_values, read, read_option, read_word, IsThere, IsThereOption, IsWordThere, word_bytes, byte_at, bytes_of, fields_of, object_of, IsLaidOut, Keeps, IsChanged}
-use Rattle.heap_store.specs.Queues.{Queue}
+use Rattle.heap_store.specs.Starts.{Starts, is_cell, has_values, read_word, IsWordThere, word_bytes, bytes_of, fields_of, object_of, IsLaidOut, Keeps, IsChanged}
 use Rattle.heap_store.specs.HeapView.{HeapView, starts_in, starts_of}
 use Rattle.heap_store.specs.Changes.{IsStartChanged}
 use Rattle.heap_store.specs.Stands.{Stands}

@@ -1,27 +1,24 @@
 -- What a heap stands for after one start or one register changed.
-use Rattle.std.proofs.Common.{◌≡◌, ◌≢◌, ℕ, zero, suc, ◌+◌, ◌<◌, ◌≤◌, ◌^◌, ◌==◌, pos, negsuc, Bool, true, false, not, cond, List, [], ◌∷◌, length, map, set, get_or, IsTrue, IsSome, Option, Some, None, nat_cmp, refl, sym, ◌∙◌, ap, subst, arith, inl, inr, ◌⊎◌}
+use Rattle.std.proofs.Common.{◌≡◌, ℕ, zero, suc, ◌<◌, ◌≤◌, ◌^◌, pos, negsuc, Bool, true, false, not, List, [], ◌∷◌, set, IsTrue, Option, Some, None, nat_cmp, refl, sym, ◌∙◌, ap, subst, arith, inl, inr}
 use Rattle.std.specs.List.{AllByRecursion}
-use Rattle.std.specs.FinMap.{FinMap, get, find}
-use Rattle.std.proofs.lemmas.Bool.{cases_eq, cases_Bool, false≢true, lt-ltb}
+use Rattle.std.specs.FinMap.{find}
+use Rattle.std.proofs.lemmas.Bool.{false≢true, lt-ltb}
 use Rattle.std.proofs.lemmas.List.{map-set}
 use Rattle.gc_words.specs.declared.value.Value.{Value}
 use Rattle.gc_words.specs.declared.value.Value.TheVariants as word
-use Rattle.trace_types.specs.Values as values
-use Rattle.trace_types.specs.Values.{Object, Graph, object_at, objects_in, object, is_value, is_guardian}
+use Rattle.trace_types.specs.Values.{Object, objects_in, is_value, is_guardian}
 use Rattle.trace_types.specs.States.{State, with_object, with_register}
-use Rattle.trace_types.specs.Rules.{has, ◌⊆◌}
+use Rattle.trace_types.specs.Rules.{◌⊆◌}
 use Rattle.trace_types.specs.WellFormed.{greatest_line, births, IsWellFormedTo, IsNext}
 use Rattle.trace_types.proofs.Answering.{no_objects, found_born}
 use Rattle.trace_types.proofs.Stepping.{register_well_formed}
 use Rattle.segment.specs.Segments.{Start}
 use Rattle.territory.specs.Territories.{TerritoryView}
-use Rattle.heap_store.specs.Starts.{Starts, is_cell, is_object, birth_of, read, IsThere, object_of, IsLaidOut, IsClosed, lasting, Keeps, IsChanged}
-use Rattle.heap_store.specs.Queues.{Queue, HasQueue, IsQueued}
-use Rattle.heap_store.specs.Graphs.{GraphStands}
-use Rattle.heap_store.specs.Roots.{RegistersStand, LocksStand}
+use Rattle.heap_store.specs.Starts.{Starts, is_cell, is_object, birth_of, read, IsThere, object_of, IsLaidOut, lasting, Keeps, IsChanged}
+use Rattle.heap_store.specs.Queues.{Queue, HasQueue}
 use Rattle.heap_store.specs.HeapView.{HeapView, starts_in, starts_of}
 use Rattle.heap_store.specs.Stands.{AreSettled, HasGuardian, IsLoose, Stands}
-use Rattle.heap_store.proofs.Kept.{some_is, is_some, same_generation as same_part, registers_kept, notes_kept, registry_kept}
+use Rattle.heap_store.proofs.Kept.{is_some, same_generation as same_part, registers_kept, notes_kept, registry_kept}
 use Rattle.heap_store.proofs.Changed.{keeps, kind_part, changed_closed, changed_graph, changed_locks, queued_kept, now}
 
 -- ---- lines

@@ -1,5 +1,5 @@
 -- The territories of a heap after one start of one of them was added or changed.
-use Rattle.std.proofs.Common.{◌≡◌, ◌≢◌, ℕ, ◌<◌, ◌≤◌, Bool, true, false, List, [], ◌∷◌, length, set, get_or, slice_get, IsSome, Option, Some, None, refl, sym, ◌∙◌, ap, subst, arith, inl, inr, ◌⊎◌, get_or-set_same, get_or-set_other}
+use Rattle.std.proofs.Common.{◌≡◌, ◌≢◌, ℕ, ◌<◌, false, List, length, set, slice_get, IsSome, Some, None, sym, ◌∙◌, ap, subst, arith, inl, inr, get_or-set_same, get_or-set_other}
 use Rattle.std.specs.FinMap.{get}
 use Rattle.std.proofs.lemmas.Bool.{cases_eq, cases_lt}
 use Rattle.std.proofs.lemmas.List.{length-set}
@@ -7,11 +7,11 @@ use Rattle.std.proofs.lemmas.Option.{same_Some, slice_get-get_or, slice_get_past
 use Rattle.gc_words.specs.Layout.{thread_of}
 use Rattle.segment.specs.Segments.{Start}
 use Rattle.territory.specs.Territories.{TerritoryView}
-use Rattle.heap_store.specs.Starts.{Starts, is_cell, IsClosed, lasting, IsChanged}
+use Rattle.heap_store.specs.Starts.{is_cell, IsClosed, lasting, IsChanged}
 use Rattle.heap_store.specs.HeapView.{start_in, starts_in}
 use Rattle.heap_store.specs.Stands.{AreSettled}
 use Rattle.heap_store.specs.Changes.{HasNoFrom, IsStartChanged}
-use Rattle.heap_store.proofs.Kept.{is_some, some_is, same_birth}
+use Rattle.heap_store.proofs.Kept.{is_some, same_birth}
 
 -- ---- lists
 

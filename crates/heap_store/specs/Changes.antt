@@ -26,12 +26,14 @@ pub record IsStartChanged (old new : TerritoryView) (a : ℕ) (x : Start) : Type
 pub record IsMade (old new : TerritoryView) (a : ℕ) (x : Start) : Type 0 where
   pub changed : IsStartChanged old new a x
   pub free : get old.starts a ≡ None
-  pub sound : (before after : ℕ → Option ℕ) → IsToldMore before after old a → AreCardsSound before old → AreCardsSound after new
+  pub sound : (before after : ℕ → Option ℕ) → IsToldMore before after old a → AreCardsSound before old
+      → AreCardsSound after new
 
 -- A start that was there got other words, and the cards stay sound.
 pub record IsRewritten (old new : TerritoryView) (a : ℕ) (x : Start) (words : List ℕ) : Type 0 where
   pub changed : IsStartChanged old new a (record x { words = words })
-  pub sound : (generation_at : ℕ → Option ℕ) → AreCardsSound generation_at old → AreCardsSound generation_at new
+  pub sound : (generation_at : ℕ → Option ℕ) → AreCardsSound generation_at old
+      → AreCardsSound generation_at new
 
 -- a start of generation 0 with so many words
 pub record HasYoung (t : TerritoryView) (a count : ℕ) : Type 0 where
@@ -43,7 +45,13 @@ pub record HasYoung (t : TerritoryView) (a count : ℕ) : Type 0 where
 
 -- a new object of generation 0
 abbrev pub new_start : Kind → ℕ → ℕ → List ℕ → Start
-new_start kind length birth words = record { kind = kind; length = length; generation = 0; birth = birth; words = words }
+new_start kind length birth words = record {
+  kind = kind;
+  length = length;
+  generation = 0;
+  birth = birth;
+  words = words;
+}
 
 -- the first words are this one
 abbrev pub filled : ℕ → ℕ → List ℕ → List ℕ
@@ -56,4 +64,5 @@ generation_at f a = option_map (λ (x : Start). x.generation) (f a)
 -- the cards of all territories are sound
 abbrev pub HaveSoundCards : List TerritoryView → Type 0
 HaveSoundCards territories =
-    (i : ℕ) (t : TerritoryView) → slice_get territories i ≡ Some t → AreCardsSound (generation_at (starts_in territories)) t
+    (i : ℕ) (t : TerritoryView) → slice_get territories i ≡ Some t
+    → AreCardsSound (generation_at (starts_in territories)) t

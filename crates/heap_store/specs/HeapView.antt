@@ -1,5 +1,5 @@
 -- What contracts see of a heap.
-use Rattle.std.specs.Prelude.{◌≡◌, ℕ, Bool, List, Option, Some, None, slice_get}
+use Rattle.std.specs.Prelude.{ℕ, Bool, List, Option, Some, None, slice_get}
 use Rattle.std.specs.FinMap.{get}
 use Rattle.gc_words.specs.declared.value.Value.{Value}
 use Rattle.gc_words.specs.declared.registration.Registration.{Registration}
@@ -9,9 +9,10 @@ use Rattle.territory.specs.Territories.{TerritoryView}
 use Rattle.heap_store.specs.declared.notes.Noted.{Noted}
 use Rattle.heap_store.specs.Starts.{Starts}
 
--- Whether a call ran out of memory; the newest line that the heap was given, 0 at first; a territory for each thread;
--- what each register holds; the locked places with their counts, in ascending order; 256 notes; nine lists of registrations, one for each level;
--- the current thread, how many plain collections there were, the oldest generation that is collected, and the version.
+-- Whether a call ran out of memory; the newest line that the heap was given, 0 at first; a territory for
+-- each thread; what each register holds; the locked places with their counts, in ascending order; 256
+-- notes; nine lists of registrations, one for each level; the current thread, how many plain collections
+-- there were, the oldest generation that is collected, and the version.
 pub record HeapView : Type 0 where
   pub failed : Bool
   pub last : ℕ

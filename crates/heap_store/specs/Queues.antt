@@ -50,8 +50,8 @@ AreCells f thread generation (c ∷ cells) (entry ∷ queue) =
     IsCell f thread generation c (first_word_of cells) entry × AreCells f thread generation cells queue
 AreCells f thread generation _ _ = ⊥
 
--- The queue of what starts at a place, and its cells: a guardian refers to the first and the last of them, and nothing
--- else has any. Cells are of the guardian's thread and generation.
+-- The queue of what starts at a place, and its cells: a guardian refers to the first and the last of them,
+-- and nothing else has any. Cells are of the guardian's thread and generation.
 pub record HasQueue (f : Starts) (a : ℕ) (x : Start) (cells : List ℕ) (queue : Queue) : Type 0 where
   pub are_cells : AreCells f (thread_of a) x.generation cells queue
   pub ends : IsTrue (is_guardian x.kind) → x.words ≡ first_word_of cells ∷ last_word_of cells ∷ nil_word ∷ []

@@ -10,9 +10,11 @@ abbrev pub level_count : ℕ
 level_count = 9
 
 abbrev pub entry_at : List Registration → ℕ → Registration
-entry_at entries index = slice_index_or entries index (record { line = 0; guardian = 0; object = word.Nil; representative = word.Nil })
+entry_at entries index =
+    slice_index_or entries index (record { line = 0; guardian = 0; object = word.Nil; representative = word.Nil })
 
 -- the registrations of each level: chain 1 + l has the indices of level l
 abbrev pub levels : List Registration → Option (List (List ℕ)) → List (List Registration)
 levels entries None = replicate level_count []
-levels entries (Some lists) = map (λ level. map (entry_at entries) (chain_of lists (1 + level))) (range_with_len 0 level_count)
+levels entries (Some lists) =
+    map (λ level. map (entry_at entries) (chain_of lists (1 + level))) (range_with_len 0 level_count)

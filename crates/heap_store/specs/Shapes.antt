@@ -1,7 +1,6 @@
 -- New objects by what they are to hold.
 use Rattle.std.specs.Prelude.{◌≡◌, ℕ, ◌+◌, ◌-◌, ◌/◌, ◌%◌, ◌==◌, List, [], ◌∷◌, ◌++◌, replicate, if◌then◌else◌}
 use Rattle.std.specs.Int.{w64, from_le_bytes}
-use Rattle.trace_types.specs.declared.kind.Kind.{Kind}
 use Rattle.segment.specs.Layout.{words_after, HasLength}
 use Rattle.segment.specs.Segments.{Start}
 use Rattle.heap_store.specs.declared.shape.Shape.{Shape}
@@ -14,7 +13,8 @@ packed_word byte count = from_le_bytes w64 (replicate count byte ++ replicate (8
 
 -- so many bytes, eight to a word
 abbrev pub packed : ℕ → ℕ → List ℕ
-packed byte n = replicate (n / 8) (packed_word byte 8) ++ (if n % 8 == 0 then [] else packed_word byte (n % 8) ∷ [])
+packed byte n =
+    replicate (n / 8) (packed_word byte 8) ++ (if n % 8 == 0 then [] else packed_word byte (n % 8) ∷ [])
 
 -- the object that is made on this line
 abbrev pub start_of : ℕ → Shape → Start

@@ -15,13 +15,13 @@ use Rattle.heap_store.specs.Roots.{RegistersStand, LocksStand, NotesStand, Regis
 use Rattle.heap_store.specs.HeapView.{HeapView, starts_of}
 use Rattle.heap_store.specs.Changes.{HasNoFrom}
 
--- The territories of threads 0 to 63, in this order: a start is in the one of its thread, and no segment is set aside
--- for a collection.
+-- The territories of threads 0 to 63, in this order: a start is in the one of its thread, and no segment is
+-- set aside for a collection.
 pub record AreSettled (territories : List TerritoryView) : Type 0 where
   pub count : length territories ≡ 64
   pub threads : (i : ℕ) (t : TerritoryView) → slice_get territories i ≡ Some t → t.thread ≡ i
-  pub placed : (i : ℕ) (t : TerritoryView) (a : ℕ) (x : Start) → slice_get territories i ≡ Some t → get t.starts a ≡ Some x
-      → thread_of a ≡ i
+  pub placed : (i : ℕ) (t : TerritoryView) (a : ℕ) (x : Start) → slice_get territories i ≡ Some t
+      → get t.starts a ≡ Some x → thread_of a ≡ i
   pub no_from : (i : ℕ) (t : TerritoryView) → slice_get territories i ≡ Some t → HasNoFrom t
 
 -- a guardian of this generation
@@ -38,9 +38,9 @@ pub record IsLoose (f : Starts) (s : State) (cell : Start) : Type 0 where
   pub no_line : has (registration_lines s) cell.birth ≡ false
   pub generation : (cell.generation ≤ s.oldest) ⊎ HasGuardian f cell.generation
 
--- A heap that has not failed stands for a state. Its starts are the objects, by birth, and its cells are in queues or
--- loose. Registers, locks, notes and registrations are the state's, with each birth replaced by the place of its object;
--- all else is equal. No number of the heap or the state is above the newest line.
+-- A heap that has not failed stands for a state. Its starts are the objects, by birth, and its cells are in
+-- queues or loose. Registers, locks, notes and registrations are the state's, with each birth replaced by
+-- the place of its object; all else is equal. No number of the heap or the state is above the newest line.
 pub record Stands (h : HeapView) (s : State) : Type 0 where
   pub alive : h.failed ≡ false
   pub territories : AreSettled h.territories

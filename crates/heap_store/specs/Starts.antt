@@ -1,4 +1,5 @@
--- The starts of a heap, and how they read: as objects of a graph, with each place replaced by the birth of what is there.
+-- The starts of a heap, and how they read: as objects of a graph, with each place replaced by the birth of
+-- what is there.
 use Rattle.std.specs.Prelude.{◌≡◌, ◌≢◌, ℕ, ◌/◌, ◌%◌, ◌≤◌, pos, Bool, true, false, not, ◌&&◌, List, map, length, slice_index, [], IsTrue, IsSome, Option, Some, None, if◌then◌else◌}
 use Rattle.std.specs.List.{AllByRecursion, range_with_len}
 use Rattle.std.specs.Int.{w64, to_le_bytes}
@@ -102,8 +103,8 @@ object_of f a x queue = record {
   queue = queue;
 }
 
--- The words are laid out as the kind asks: as many as belong to the length, values that are there, and behind the
--- last byte zeros.
+-- The words are laid out as the kind asks: as many as belong to the length, values that are there, and
+-- behind the last byte zeros.
 pub record IsLaidOut (f : Starts) (x : Start) : Type 0 where
   pub sized : HasLength x.kind x.length
   pub words : length x.words ≡ words_after x.kind x.length

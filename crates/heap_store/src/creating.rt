@@ -10,7 +10,7 @@ ghost use Rattle.heap_store.specs.Shapes.{start_of, HasSize};
 ghost use Rattle.heap_store.specs.HeapView.{starts_of};
 ghost use Rattle.heap_store.specs.Changes.{HaveSoundCards};
 ghost use Rattle.heap_store.specs.Stands.{Stands};
-ghost use Rattle.heap_store.specs.Calls.{Obeys, IsLeft};
+ghost use Rattle.heap_store.specs.Calls.{Performs, IsLeft};
 
 use crate::error::HeapError;
 use crate::heap::Heap;
@@ -31,7 +31,7 @@ impl Heap {
         requires line { line ≤ greatest_line }
         requires car { IsTrue (operand_fits car) }
         requires cdr { IsTrue (operand_fits cdr) }
-        ensures step { (s : State) → Stands self.old s → Obeys s (step s line (Command.Cons d car cdr)) result self.new }
+        ensures step { Performs self.old (λ s. step s line (Command.Cons d car cdr)) result self.new }
         ensures failed { (result ≡ Err HeapError.Failed) ↔ (self.old.failed ≡ true) }
         ensures left { IsLeft result self.old self.new }
         ensures kept { OnOk result (Keeps (starts_of self.old) (starts_of self.new)) }
@@ -56,7 +56,7 @@ impl Heap {
         requires newer { self.old.last < line }
         requires line { line ≤ greatest_line }
         requires value { IsTrue (operand_fits value) }
-        ensures step { (s : State) → Stands self.old s → Obeys s (step s line (Command.MakeBox d value)) result self.new }
+        ensures step { Performs self.old (λ s. step s line (Command.MakeBox d value)) result self.new }
         ensures failed { (result ≡ Err HeapError.Failed) ↔ (self.old.failed ≡ true) }
         ensures left { IsLeft result self.old self.new }
         ensures kept { OnOk result (Keeps (starts_of self.old) (starts_of self.new)) }
@@ -75,8 +75,9 @@ impl Heap {
         self.make(line, d, boxed)
     }
 
-    /// Makes a vector of so many times the value on this line, and puts it into a register. Takes memory; refused, the
-    /// heap has failed. A length above 1,000,000, or 4,000,000 in version 2, is the fault `BadLength`.
+    /// Makes a vector of so many times the value on this line, and puts it into a register. Takes memory;
+    /// refused, the heap has failed. A length above 1,000,000, or 4,000,000 in version 2, is the fault
+    /// `BadLength`.
     pub fn vector(
         &mut self,
         line: u32,
@@ -87,7 +88,7 @@ impl Heap {
         requires newer { self.old.last < line }
         requires line { line ≤ greatest_line }
         requires value { IsTrue (operand_fits value) }
-        ensures step { (s : State) → Stands self.old s → Obeys s (step s line (Command.Vector d length value)) result self.new }
+        ensures step { Performs self.old (λ s. step s line (Command.Vector d length value)) result self.new }
         ensures failed { (result ≡ Err HeapError.Failed) ↔ (self.old.failed ≡ true) }
         ensures left { IsLeft result self.old self.new }
         ensures kept { OnOk result (Keeps (starts_of self.old) (starts_of self.new)) }
@@ -109,12 +110,13 @@ impl Heap {
         self.make(line, d, vector)
     }
 
-    /// Makes a byte object of so many times the byte on this line, and puts it into a register. Takes memory; refused,
-    /// the heap has failed. A length above 1,000,000, or 4,000,000 in version 2, is the fault `BadLength`.
+    /// Makes a byte object of so many times the byte on this line, and puts it into a register. Takes
+    /// memory; refused, the heap has failed. A length above 1,000,000, or 4,000,000 in version 2, is the
+    /// fault `BadLength`.
     pub fn bytes(&mut self, line: u32, d: Register, length: u32, byte: u8) -> Result<(), HeapError>
         requires newer { self.old.last < line }
         requires line { line ≤ greatest_line }
-        ensures step { (s : State) → Stands self.old s → Obeys s (step s line (Command.Bytes d length byte)) result self.new }
+        ensures step { Performs self.old (λ s. step s line (Command.Bytes d length byte)) result self.new }
         ensures failed { (result ≡ Err HeapError.Failed) ↔ (self.old.failed ≡ true) }
         ensures left { IsLeft result self.old self.new }
         ensures kept { OnOk result (Keeps (starts_of self.old) (starts_of self.new)) }

@@ -1,21 +1,22 @@
 //! The calls that read or change a field of an object.
 
-ghost use Rattle.std.specs.Prelude.{◌≡◌, ◌≢◌, ◌↔◌, ℕ, ◌<◌, ◌≤◌, pos, true, false, length, slice_get, slice_index_or, Some, Ok, Err, IfOk, IfSome, OnOk, OnErr, option_map, IsSome, IsTrue, MatchOption};
+ghost use Rattle.std.specs.Prelude.{◌≡◌, ◌≢◌, ◌↔◌, ℕ, ◌<◌, ◌≤◌, pos, true, false, length, slice_get, slice_index_or, Some, Ok, Err, IfOk, IfSome, OnOk, OnErr, IsSome, IsTrue, MatchOption};
 ghost use Rattle.std.specs.FinMap.{get};
 ghost use Rattle.gc_words.specs.Layout.{thread_of};
 ghost use Rattle.gc_words.specs.declared.address.TheConstants.{THREADS};
 ghost use Rattle.gc_words.specs.declared.value.Value.{Value};
 ghost use Rattle.gc_words.specs.Word.{IsInRange};
-ghost use Rattle.trace_types.specs.Values.{has_bytes, object_of_value};
+ghost use Rattle.trace_types.specs.Values.{has_bytes};
 ghost use Rattle.trace_types.specs.WellFormed.{operand_fits};
-ghost use Rattle.trace_types.specs.States.{State, operand_value};
+ghost use Rattle.trace_types.specs.States.{State};
 ghost use Rattle.trace_types.specs.Steps.{step};
 ghost use Rattle.heap_store.specs.Starts.{IsThere, Keeps, is_object};
 ghost use Rattle.heap_store.specs.Changes.{HaveSoundCards};
 ghost use Rattle.heap_store.specs.HeapView.{starts_of};
-ghost use Rattle.heap_store.specs.Fields.{place_in, HasNoFields, IsFielded, field_in, is_byte_word, refers_of, word_index, Puts};
+ghost use Rattle.heap_store.specs.Fields.{place_in, HasNoFields, IsFielded, field_in, generation_in};
+ghost use Rattle.heap_store.specs.Fields.{is_byte_word, refers_of, word_index, HasRoomFor, PutsThere};
 ghost use Rattle.heap_store.specs.Stands.{Stands};
-ghost use Rattle.heap_store.specs.Calls.{Obeys, IsLeft};
+ghost use Rattle.heap_store.specs.Calls.{PerformsOnAnyLine, IsLeft};
 
 use crate::error::HeapError;
 use crate::heap::Heap;
@@ -25,11 +26,11 @@ use territory::Territory;
 use trace_types::{Command, Fault, Kind, Operand, Register};
 
 impl Heap {
-    /// Puts a field of the object in register `s` into register `d`; a byte becomes a fixnum. Takes no memory. The fault
-    /// is `WrongKind` where `s` holds no object of a kind with fields, and `BadIndex` where the index is not below its
-    /// length.
+    /// Puts a field of the object in register `s` into register `d`; a byte becomes a fixnum. Takes no
+    /// memory. The fault is `WrongKind` where `s` holds no object of a kind with fields, and `BadIndex`
+    /// where the index is not below its length.
     pub fn get(&mut self, d: Register, s: Register, index: u32) -> Result<(), HeapError>
-        ensures step { (before : State) (line : ℕ) → Stands self.old before → Obeys before (step before line (Command.Get d s index)) result self.new }
+        ensures step { PerformsOnAnyLine self.old (λ before line. step before line (Command.Get d s index)) result self.new }
         ensures failed { (result ≡ Err HeapError.Failed) ↔ (self.old.failed ≡ true) }
         ensures no_memory { result ≢ Err HeapError.NoMemory }
         ensures left { IsLeft result self.old self.new }
@@ -51,12 +52,12 @@ impl Heap {
         Ok(())
     }
 
-    /// Puts a value into a field of the object in register `s`. Takes no memory. The fault is `WrongKind` where `s` holds
-    /// no object of a kind with fields, or a byte object and the value is no number from 0 to 255; then `BadIndex` where
-    /// the index is not below its length.
+    /// Puts a value into a field of the object in register `s`. Takes no memory. The fault is `WrongKind`
+    /// where `s` holds no object of a kind with fields, or a byte object and the value is no number from 0
+    /// to 255; then `BadIndex` where the index is not below its length.
     pub fn set(&mut self, s: Register, index: u32, value: Operand) -> Result<(), HeapError>
         requires { IsTrue (operand_fits value) }
-        ensures step { (before : State) (line : ℕ) → Stands self.old before → Obeys before (step before line (Command.Set s index value)) result self.new }
+        ensures step { PerformsOnAnyLine self.old (λ before line. step before line (Command.Set s index value)) result self.new }
         ensures failed { (result ≡ Err HeapError.Failed) ↔ (self.old.failed ≡ true) }
         ensures no_memory { result ≢ Err HeapError.NoMemory }
         ensures left { IsLeft result self.old self.new }
@@ -79,10 +80,11 @@ impl Heap {
         Ok(())
     }
 
-    /// The generation of the object that the value is, and none of an immediate. Takes no memory, and has no fault.
+    /// The generation of the object that the value is, and none of an immediate. Takes no memory, and has
+    /// no fault.
     pub fn generation_of(&self, value: Operand) -> Result<Option<u8>, HeapError>
         requires { IsTrue (operand_fits value) }
-        ensures value { IfOk result (λ g. (s : State) → Stands self.now s → g ≡ option_map (λ o. o.generation) (object_of_value s.graph (operand_value s value))) }
+        ensures value { IfOk result (λ g. (s : State) → Stands self.now s → g ≡ generation_in s value) }
         ensures failed { (result ≡ Err HeapError.Failed) ↔ (self.now.failed ≡ true) }
         ensures only_failed { OnErr result (self.now.failed ≡ true) }
     {
@@ -152,8 +154,9 @@ fn index_of(at: Address) -> usize
     usize::from(at.thread())
 }
 
-/// Puts a value into a field of an object. `refers` is the generation of what it refers to, or 255. The fault is
-/// `WrongKind` where a byte object would get no byte, and `BadIndex` where the index is not below the length.
+/// Puts a value into a field of an object. `refers` is the generation of what it refers to, or 255. The
+/// fault is `WrongKind` where a byte object would get no byte, and `BadIndex` where the index is not below
+/// the length.
 fn put_field(
     territory: &mut Territory,
     at: Address,
@@ -163,8 +166,8 @@ fn put_field(
 ) -> Result<(), Fault>
     requires start { IsSome (get territory.old.starts at) }
     requires value { IsInRange value }
-    requires room { IfSome (get territory.old.starts at) (λ x. index < x.length → word_index x.kind index < length x.words) }
-    ensures { IfSome (get territory.old.starts at) (λ x. Puts territory.old territory.new at x index value refers result) }
+    requires room { IfSome (get territory.old.starts at) (HasRoomFor index) }
+    ensures { PutsThere territory.old territory.new at index value refers result }
 {
     match territory.kind(at) {
         Kind::Bytes | Kind::ImmBytes => put_byte(territory, at, index, value),
@@ -182,8 +185,8 @@ fn put_value(
     requires start { IsSome (get territory.old.starts at) }
     requires value { IsInRange value }
     requires words { IfSome (get territory.old.starts at) (λ x. has_bytes x.kind ≡ false) }
-    requires room { IfSome (get territory.old.starts at) (λ x. index < x.length → word_index x.kind index < length x.words) }
-    ensures { IfSome (get territory.old.starts at) (λ x. Puts territory.old territory.new at x index value refers result) }
+    requires room { IfSome (get territory.old.starts at) (HasRoomFor index) }
+    ensures { PutsThere territory.old territory.new at index value refers result }
 {
     if index >= territory.length(at) {
         return Err(Fault::BadIndex);
@@ -195,8 +198,8 @@ fn put_value(
 fn put_byte(territory: &mut Territory, at: Address, index: u32, value: Value) -> Result<(), Fault>
     requires start { IsSome (get territory.old.starts at) }
     requires bytes { IfSome (get territory.old.starts at) (λ x. has_bytes x.kind ≡ true) }
-    requires room { IfSome (get territory.old.starts at) (λ x. index < x.length → word_index x.kind index < length x.words) }
-    ensures { (refers : ℕ) → IfSome (get territory.old.starts at) (λ x. Puts territory.old territory.new at x index value refers result) }
+    requires room { IfSome (get territory.old.starts at) (HasRoomFor index) }
+    ensures { (refers : ℕ) → PutsThere territory.old territory.new at index value refers result }
 {
     let Some(byte) = byte_in(value) else {
         return Err(Fault::WrongKind);

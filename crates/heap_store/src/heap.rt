@@ -9,7 +9,7 @@ ghost use Rattle.heap_store.specs.Starts.{Keeps};
 ghost use Rattle.heap_store.specs.HeapView.{starts_of};
 ghost use Rattle.heap_store.specs.Changes.{HaveSoundCards};
 ghost use Rattle.heap_store.specs.Stands.{Stands};
-ghost use Rattle.heap_store.specs.Calls.{Obeys, IsLeft, IsValid, operand_value};
+ghost use Rattle.heap_store.specs.Calls.{Performs, PerformsOnAnyLine, IsLeft, IsValid, operand_value};
 ghost use Rattle.heap_store.specs.Opening.{AreNew};
 
 use crate::error::HeapError;
@@ -125,8 +125,8 @@ impl Heap {
         })
     }
 
-    /// Whether a call ran out of memory, or the parts are taken out. Every call that answers a `HeapError` answers
-    /// `Failed` then.
+    /// Whether a call ran out of memory, or the parts are taken out. Every call that answers a `HeapError`
+    /// answers `Failed` then.
     pub fn failed(&self) -> bool
         ensures { result ≡ self.now.failed }
     {
@@ -143,7 +143,7 @@ impl Heap {
     /// Makes this thread the creator of what is made from now on. Takes no memory, and has no fault.
     pub fn select_thread(&mut self, thread: u8) -> Result<(), HeapError>
         requires { thread ≤ 63 }
-        ensures step { (s : State) (line : ℕ) → Stands self.old s → Obeys s (step s line (Command.Thread thread)) result self.new }
+        ensures step { PerformsOnAnyLine self.old (λ s line. step s line (Command.Thread thread)) result self.new }
         ensures failed { (result ≡ Err HeapError.Failed) ↔ (self.old.failed ≡ true) }
         ensures no_memory { result ≢ Err HeapError.NoMemory }
         ensures left { IsLeft result self.old self.new }
@@ -160,7 +160,7 @@ impl Heap {
     /// Puts a value into a register. Takes no memory, and has no fault.
     pub fn mov(&mut self, d: Register, value: Operand) -> Result<(), HeapError>
         requires { IsTrue (operand_fits value) }
-        ensures step { (s : State) (line : ℕ) → Stands self.old s → Obeys s (step s line (Command.Mov d value)) result self.new }
+        ensures step { PerformsOnAnyLine self.old (λ s line. step s line (Command.Mov d value)) result self.new }
         ensures failed { (result ≡ Err HeapError.Failed) ↔ (self.old.failed ≡ true) }
         ensures no_memory { result ≢ Err HeapError.NoMemory }
         ensures left { IsLeft result self.old self.new }
@@ -201,12 +201,12 @@ impl Heap {
         }
     }
 
-    /// Makes the version 2, which only line 1 may do: on any other line it answers the fault `UnknownCommand`. Takes no
-    /// memory.
+    /// Makes the version 2, which only line 1 may do: on any other line it answers the fault
+    /// `UnknownCommand`. Takes no memory.
     pub fn version_two(&mut self, line: u32) -> Result<(), HeapError>
         requires newer { self.old.last < line }
         requires line { line ≤ greatest_line }
-        ensures step { (s : State) → Stands self.old s → Obeys s (step s line Command.Version) result self.new }
+        ensures step { Performs self.old (λ s. step s line Command.Version) result self.new }
         ensures failed { (result ≡ Err HeapError.Failed) ↔ (self.old.failed ≡ true) }
         ensures no_memory { result ≢ Err HeapError.NoMemory }
         ensures left { IsLeft result self.old self.new }

@@ -1,11 +1,13 @@
 //! The heap: the objects of 64 threads, and the registers, locks, notes and registrations that refer to them.
 //!
-//! Objects lie in the segments of their creator's territory, as in Chez Scheme (Dybvig, Eby and Bruggeman, "Don't Stop
-//! the BIBOP", 1994). Each call that performs a command of a trace does to the heap what the command does to a state.
+//! Objects lie in the segments of their creator's territory, as in Chez Scheme (Dybvig, Eby and Bruggeman,
+//! "Don't Stop the BIBOP", 1994). Each call that performs a command of a trace does to the heap what the
+//! command does to a state.
 //!
-//! Contracts see a `Heap` as its parts (`HeapView`), and say what it stands for: a heap `Stands` for a state where its
-//! starts are the state's objects by birth and all that refers to a birth there refers here to the one place with that
-//! birth. Its invariant: a heap that has not failed stands for some state, and its cards are sound.
+//! Contracts see a `Heap` as its parts (`HeapView`), and say what it stands for: a heap `Stands` for a
+//! state where its starts are the state's objects by birth and all that refers to a birth there refers here
+//! to the one place with that birth. Its invariant: a heap that has not failed stands for some state, and
+//! its cards are sound.
 //!
 //! `new`, `cons`, `make_box`, `vector` and `bytes` take memory. No other call does.
 #![tactic(auto)]

@@ -8,12 +8,13 @@ use seg_chain::Chains;
 use std::alloc::Global;
 use std::marker::Model;
 
-/// Registrations, in one list for each level from 0 to 8. The level of a registration is the least generation of the
-/// objects that it names, so a collection looks at the levels that it collects alone.
+/// Registrations, in one list for each level from 0 to 8. The level of a registration is the least
+/// generation of the objects that it names, so a collection looks at the levels that it collects alone.
 #[derive(Drop)]
 pub struct Registry {
     entries: Vec<Registration>,
-    /// Chain 1 + l has the indices of level l, and chain 0 those that are free. There is none before the first entry.
+    /// Chain 1 + l has the indices of level l, and chain 0 those that are free. There is none before the
+    /// first entry.
     chains: Option<Chains>,
 }
 

@@ -12,8 +12,8 @@ use std::alloc::AllocError;
 use territory::Territory;
 use trace_types::Kind;
 
-/// What `put` is told of a word that needs no mark on its card: a word that refers to nothing, or a word of a new object,
-/// since nothing is younger than generation 0.
+/// What `put` is told of a word that needs no mark on its card: a word that refers to nothing, or a word of
+/// a new object, since nothing is younger than generation 0.
 pub(crate) const NO_MARK: u8 = 255;
 
 /// What a new object is to hold.

@@ -68,10 +68,10 @@ fn faults_of_set_in_their_order(rt: HostRuntime) -> Result<(), Fail> {
 
 #[test]
 fn a_failed_heap_answers_failed(rt: HostRuntime) -> Result<(), Fail> {
-    let mut heap = Heap::new(rt.alloc(), 7)?;
     let r = register(0)?;
-    heap.fail();
     for call in 0..9u32 {
+        let mut heap = Heap::new(rt.alloc(), 7)?;
+        heap.fail();
         let answer = match call {
             0 => heap.cons(1, r, Operand::Nil, Operand::Nil),
             1 => heap.make_box(1, r, Operand::Nil),
@@ -84,8 +84,8 @@ fn a_failed_heap_answers_failed(rt: HostRuntime) -> Result<(), Fail> {
             _ => heap.version_two(1),
         };
         assert_eq!(rt; answer, Err(HeapError::Failed), "call {call}");
+        assert_eq!(rt; heap.value_of(Operand::Nil), Err(HeapError::Failed));
+        assert_eq!(rt; heap.generation_of(Operand::Nil), Err(HeapError::Failed));
     }
-    assert_eq!(rt; heap.value_of(Operand::Nil), Err(HeapError::Failed));
-    assert_eq!(rt; heap.generation_of(Operand::Nil), Err(HeapError::Failed));
     Ok(())
 }

@@ -1,4 +1,4 @@
-use Rattle.heap_store.proofs.Filling.{filled_none, next_within, filled_next, filled_all}
+use Rattle.heap_store.proofs.Filling.{filled_next}
 use Rattle.heap_store.proofs.shape.fill.Goals as goal
 
 pub loop-index-preserved : goal.loop-index-preserved

@@ -1,4 +1,3 @@
-use Rattle.std.proofs.Common.{arith}
 use Rattle.heap_store.proofs.Filling.{is_fresh, first_room, second_room, two_made}
 use Rattle.heap_store.proofs.shape.make_two.Goals as goal
 

@@ -1,4 +1,3 @@
-use Rattle.std.proofs.Common.{refl}
 use Rattle.trace_types.specs.States.{opening}
 use Rattle.heap_store.proofs.Opening.{opened, sound_cards}
 use Rattle.heap_store.proofs.heap.Heap.new.Goals as goal
