@@ -29,55 +29,20 @@ pub fn exchange<M: Ledger>(
     ensures delivered { IfOk result (λ inboxes. IsDelivered sweepers (all_of outboxes.items) inboxes.items) }
     ensures mail { OnOk result (mail.new ≡ mail.old + length (all_of outboxes.items)) }
 {
-    let sizes = inbox_sizes(alloc, &outboxes, sweepers)?;
-    let mut inboxes = empty_inboxes(alloc, &sizes)?;
+    let mut inboxes = empty_inboxes(alloc, sweepers)?;
     for outbox in outboxes {
         deliver_all(&mut inboxes, sweepers, outbox, mail)?;
     }
     Ok(inboxes)
 }
 
-/// How many messages each sweeper is to get. It only says how much room to ask for: no contract rests on
-/// these numbers.
-fn inbox_sizes(alloc: Global, sent: &Vec<Outbox>, sweepers: u32) -> Result<Vec<usize>, AllocError>
-    requires { vec_len sent.now ≡ sweepers }
-    ensures { IfOk result (λ sizes. vec_len sizes ≡ sweepers) }
-{
-    let mut sizes = no_sizes(alloc, sweepers)?;
-    for outbox in sent {
-        add_sizes(&mut sizes, sweepers, outbox);
-    }
-    Ok(sizes)
-}
-
-fn no_sizes(alloc: Global, sweepers: u32) -> Result<Vec<usize>, AllocError>
-    ensures { IfOk result (λ sizes. vec_len sizes ≡ sweepers) }
-{
-    let mut sizes = Vec::new(alloc);
-    for _ in 0..sweepers {
-        sizes.push(0)?;
-    }
-    Ok(sizes)
-}
-
-fn add_sizes(sizes: &mut Vec<usize>, sweepers: u32, outbox: &Outbox)
-    requires some { 0 < sweepers }
-    requires count { vec_len sizes.old ≡ sweepers }
-    ensures { vec_len sizes.new ≡ sweepers }
-{
-    for message in &outbox.messages {
-        let k = recipient(message, sweepers) as usize;
-        sizes[k] = sizes[k].saturating_add(1);
-    }
-}
-
-fn empty_inboxes(alloc: Global, sizes: &Vec<usize>) -> Result<Vec<Inbox>, AllocError>
-    ensures count { IfOk result (λ inboxes. vec_len inboxes ≡ vec_len sizes.now) }
-    ensures delivered { IfOk result (λ inboxes. IsDelivered (vec_len sizes.now) [] inboxes.items) }
+fn empty_inboxes(alloc: Global, sweepers: u32) -> Result<Vec<Inbox>, AllocError>
+    ensures count { IfOk result (λ inboxes. vec_len inboxes ≡ sweepers) }
+    ensures delivered { IfOk result (λ inboxes. IsDelivered sweepers [] inboxes.items) }
 {
     let mut inboxes = Vec::new(alloc);
-    for size in sizes {
-        inboxes.push(Inbox::with_room(alloc, *size)?)?;
+    for _ in 0..sweepers {
+        inboxes.push(Inbox::new(alloc))?;
     }
     Ok(inboxes)
 }
@@ -95,7 +60,7 @@ fn deliver_all<M: Ledger>(
     ensures delivered { OnOk result ((sent : List Message) → IsDelivered sweepers sent inboxes.old.items → IsDelivered sweepers (sent ++ outbox) inboxes.new.items) }
     ensures mail { OnOk result (mail.new ≡ mail.old + length outbox) }
 {
-    for message in outbox.messages {
+    for message in outbox.into_messages() {
         deliver(inboxes, sweepers, message)?;
         mail.tick();
     }

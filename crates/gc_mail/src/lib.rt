@@ -14,6 +14,7 @@
 mod boxes;
 mod delivery;
 mod message;
+mod queue;
 mod recipients;
 
 pub use boxes::{Inbox, Outbox};
