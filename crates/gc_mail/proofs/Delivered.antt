@@ -1,6 +1,6 @@
-use Rattle.std.proofs.Common.{◌≡◌, ℕ, ◌+◌, List, [], ◌∷◌, ◌++◌, append_assoc, append-nil, length, length-append, refl, sym, ◌∙◌, ap, subst, arith}
+use Rattle.std.proofs.Common.{◌≡◌, ℕ, ◌+◌, List, [], ◌∷◌, ◌++◌, append_assoc, append-nil, length, length-append, sym, ◌∙◌, ap, subst, arith}
 use Rattle.gc_mail.specs.declared.message.Message.{Message}
-use Rattle.gc_mail.specs.Recipients.{all_of, IsDelivered}
+use Rattle.gc_mail.specs.Recipients.{all_of, IsDelivered, AlsoDelivers}
 
 -- one message more of the same outbox
 pub delivered_more : (n : ℕ) (sent some : List Message) (m : Message) (inboxes : List (List Message)) → IsDelivered n (sent ++ some ++ m ∷ []) inboxes → IsDelivered n (sent ++ (some ++ m ∷ [])) inboxes
@@ -17,11 +17,15 @@ delivered_push n os o inboxes h = subst (λ l. IsDelivered n l inboxes) (all_of-
 pub length-all_of-push : (os : List (List Message)) (o : List Message) → length (all_of (os ++ o ∷ [])) ≡ length (all_of os) + length o
 length-all_of-push os o = ap length (sym (all_of-push os o)) ∙ length-append (all_of os) o
 
--- of an outbox that was `whole`, what comes before `left` was delivered, and each of these is a step
+-- of the messages `whole`, those before `left` were delivered, and each of them was one step
 abbrev pub IsDeliveredUpTo : ℕ → List Message → List Message → List (List Message) → List (List Message) → ℕ → ℕ → Type 0
-IsDeliveredUpTo n whole left old new before now = (done : List Message) × (whole ≡ done ++ left) × ((sent : List Message) → IsDelivered n sent old → IsDelivered n (sent ++ done) new) × (now ≡ before + length done)
+IsDeliveredUpTo n whole left old new before now =
+    (done : List Message) × (whole ≡ done ++ left) × AlsoDelivers n done old new × (now ≡ before + length done)
 
-pub up_to-none : (n : ℕ) (whole left : List Message) (inboxes : List (List Message)) (mail : ℕ) → left ≡ whole → IsDeliveredUpTo n whole left inboxes inboxes mail mail
+-- at the start all are left
+pub up_to-none :
+    (n : ℕ) (whole left : List Message) (inboxes : List (List Message)) (mail : ℕ) → left ≡ whole →
+    IsDeliveredUpTo n whole left inboxes inboxes mail mail
 up_to-none n whole left inboxes mail e = (
   [],
   sym e,
@@ -30,7 +34,10 @@ up_to-none n whole left inboxes mail e = (
 )
 
 -- one message more
-pub up_to-more : (n : ℕ) (whole left rest : List Message) (m : Message) (old new newer : List (List Message)) (before now later : ℕ) → left ≡ m ∷ rest → ((sent : List Message) → IsDelivered n sent new → IsDelivered n (sent ++ m ∷ []) newer) → later ≡ now + 1 → IsDeliveredUpTo n whole left old new before now → IsDeliveredUpTo n whole rest old newer before later
+pub up_to-more :
+    (n : ℕ) (whole left rest : List Message) (m : Message) (old new newer : List (List Message)) (before now later : ℕ) →
+    left ≡ m ∷ rest → AlsoDelivers n (m ∷ []) new newer → later ≡ now + 1 →
+    IsDeliveredUpTo n whole left old new before now → IsDeliveredUpTo n whole rest old newer before later
 up_to-more n whole left rest m old new newer before now later e put step (done, parts, delivered, steps) = (
   done ++ m ∷ [],
   parts ∙ ap (λ l. done ++ l) e ∙ sym (append_assoc done (m ∷ []) rest),

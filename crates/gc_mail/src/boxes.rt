@@ -105,3 +105,19 @@ impl Inbox {
         Ok(())
     }
 }
+
+#[cfg(test)]
+mod tests {
+    use super::*;
+    use std::test::Fail;
+
+    /// Says of a type that its values may go to another thread.
+    fn may_cross<T: Send>(_value: &T) {}
+
+    #[test]
+    fn sweepers_take_their_boxes_to_their_threads(rt: HostRuntime) -> Result<(), Fail> {
+        may_cross(&Outbox::new(rt.alloc()));
+        may_cross(&Inbox::new(rt.alloc()));
+        Ok(())
+    }
+}

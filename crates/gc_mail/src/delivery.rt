@@ -1,8 +1,7 @@
 //! The exchange between two rounds.
 
-ghost use Rattle.std.specs.Prelude.{◌≡◌, ℕ, ◌+◌, ◌<◌, List, [], ◌∷◌, ◌++◌, length, IfOk, OnOk, vec_len};
-ghost use Rattle.gc_mail.specs.declared.message.Message.{Message};
-ghost use Rattle.gc_mail.specs.Recipients.{all_of, IsDelivered};
+ghost use Rattle.std.specs.Prelude.{◌≡◌, ◌+◌, ◌<◌, [], ◌∷◌, length, IfOk, OnOk, vec_len};
+ghost use Rattle.gc_mail.specs.Recipients.{all_of, IsDelivered, AlsoDelivers};
 
 use crate::boxes::{Inbox, Outbox};
 use crate::message::Message;
@@ -14,9 +13,9 @@ use steps::Steps;
 /// Gives each message to its recipient. There are as many outboxes as sweepers, by sender. Inbox k then
 /// has exactly the messages whose recipient is k, by sender and then by their place in the outbox.
 ///
-/// `mail` takes one step for each message that is delivered. Each message is moved once, into room that is
-/// asked for at once; the time is linear in the messages and the sweepers. Err where memory is refused; the
-/// messages are then dropped.
+/// `mail` takes one step for each message that is delivered. Each message is moved once, and what an outbox
+/// gives back as it is read serves the inboxes; the time is linear in the messages and the sweepers. Err where
+/// memory is refused; the messages are then dropped.
 pub fn exchange<M: Ledger>(
     alloc: Global,
     outboxes: Vec<Outbox>,
@@ -57,7 +56,7 @@ fn deliver_all<M: Ledger>(
     requires count { vec_len inboxes.old ≡ sweepers }
 
     ensures count { OnOk result (vec_len inboxes.new ≡ sweepers) }
-    ensures delivered { OnOk result ((sent : List Message) → IsDelivered sweepers sent inboxes.old.items → IsDelivered sweepers (sent ++ outbox) inboxes.new.items) }
+    ensures delivered { OnOk result (AlsoDelivers sweepers outbox inboxes.old.items inboxes.new.items) }
     ensures mail { OnOk result (mail.new ≡ mail.old + length outbox) }
 {
     for message in outbox.into_messages() {
@@ -72,7 +71,7 @@ fn deliver(inboxes: &mut Vec<Inbox>, sweepers: u32, message: Message) -> Result<
     requires count { vec_len inboxes.old ≡ sweepers }
 
     ensures count { OnOk result (vec_len inboxes.new ≡ sweepers) }
-    ensures delivered { OnOk result ((sent : List Message) → IsDelivered sweepers sent inboxes.old.items → IsDelivered sweepers (sent ++ message ∷ []) inboxes.new.items) }
+    ensures delivered { OnOk result (AlsoDelivers sweepers (message ∷ []) inboxes.old.items inboxes.new.items) }
 {
     let k = recipient(&message, sweepers) as usize;
     inboxes[k].add(message)
@@ -277,6 +276,7 @@ mod tests {
             (1, 0, None),
             (7, 0, None),
             (64, 0, None),
+            (1, 1600, None),
             (2, 100, Some(1)),
             (7, 100, Some(6)),
             (64, 1000, Some(0)),

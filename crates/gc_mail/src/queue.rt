@@ -8,12 +8,12 @@ use std::collections::VecDeque;
 use std::marker::Model;
 use std::mem;
 
-/// How many messages a block has room for. A block is then 20 KB, small enough to be had again from what another
-/// queue gave back, and large enough that asking for it costs nothing by the message.
+/// How many messages a block has room for. It is then 20 KB: small enough to be had again from what another
+/// queue gave back, and large enough that asking for it hardly counts beside its messages.
 const BLOCK: usize = 512;
 
-/// Messages, first come first, in blocks. A block's room is asked for at once and given back when it was read, so
-/// a message is not moved while it waits, and what one queue gives back serves another.
+/// Messages, first come first, in blocks. A block's room is asked for at once and given back when it was read,
+/// so a message is not moved while it waits, and what one queue gives back serves another.
 #[derive(Drop)]
 pub(crate) struct Queue {
     /// What is read next.

@@ -1,6 +1,4 @@
-use Rattle.std.proofs.Common.{◌≡◌, ℕ, ◌+◌, List, ◌++◌, length}
-use Rattle.gc_mail.specs.declared.message.Message.{Message}
-use Rattle.gc_mail.specs.Recipients.{IsDelivered}
+use Rattle.std.proofs.Common.{◌≡◌, length}
 use Rattle.gc_mail.proofs.Delivered.{IsDeliveredUpTo}
 use Rattle.gc_mail.proofs.delivery.deliver_all.Given as goal
 
