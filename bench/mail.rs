@@ -42,8 +42,10 @@ fn recipient(message: &Message) -> usize {
 }
 
 /// What both kinds of boxes do.
-trait Mail: Default + IntoIterator<Item = Message> {
+trait Mail: Default {
     fn put(&mut self, message: Message);
+
+    fn take_all(self, take: impl FnMut(Message));
 }
 
 /// Messages in blocks, of which the last one is not full.
@@ -63,15 +65,13 @@ impl Mail for Blocks {
         }
         self.last.push(message);
     }
-}
 
-impl IntoIterator for Blocks {
-    type Item = Message;
-    type IntoIter = std::iter::Flatten<std::vec::IntoIter<Vec<Message>>>;
-
-    fn into_iter(mut self) -> Self::IntoIter {
-        self.full.push(self.last);
-        self.full.into_iter().flatten()
+    fn take_all(self, mut take: impl FnMut(Message)) {
+        for block in self.full.into_iter().chain([self.last]) {
+            for message in block {
+                take(message);
+            }
+        }
     }
 }
 
@@ -79,14 +79,16 @@ impl Mail for Vec<Message> {
     fn put(&mut self, message: Message) {
         self.push(message);
     }
+
+    fn take_all(self, take: impl FnMut(Message)) {
+        self.into_iter().for_each(take);
+    }
 }
 
 /// Blocks go from sender to recipient as they come; vectors get their room first.
 fn exchange<M: Mail>(outboxes: Vec<M>, mut inboxes: Vec<M>) -> Vec<M> {
     for outbox in outboxes {
-        for message in outbox {
-            inboxes[recipient(&message)].put(message);
-        }
+        outbox.take_all(|message| inboxes[recipient(&message)].put(message));
     }
     inboxes
 }
@@ -136,9 +138,11 @@ fn run<M: Mail>(empty: fn(&[M]) -> Vec<M>) {
         let inboxes = empty(&outboxes);
         let inboxes = black_box(exchange(outboxes, inboxes));
         println!("{}", processor_time() - start);
-        for message in inboxes.into_iter().flatten() {
-            black_box(message);
-            count += 1;
+        for inbox in inboxes {
+            inbox.take_all(|message| {
+                black_box(message);
+                count += 1;
+            });
         }
     }
     println!("{count} messages");
