@@ -1,0 +1,6 @@
+pub mod Sizes
+pub mod Changes
+pub mod Spots
+pub mod Calls
+pub mod Collected
+pub mod Scans

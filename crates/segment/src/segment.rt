@@ -1,0 +1,212 @@
+//! A segment: its making, its reading, and new objects and words in it.
+
+ghost use Rattle.std.specs.Prelude.{◌≡◌, ◌≢◌, ◌+◌, ◌/◌, ◌*◌, ◌<◌, ◌≤◌, ◌↔◌, false, length, slice_index, IsTrue};
+ghost use Rattle.segment.specs.Layout.{size_of};
+ghost use Rattle.segment.specs.Segments.{IsStart, HasRoom, object_at, place_in, grown, put_in, marked_at};
+
+mod collecting;
+mod opening;
+mod scan;
+
+use crate::layout::{kind_of, length_of};
+use crate::space::Space;
+use cards::CardTable;
+use std::marker::Model;
+use trace_types::Kind;
+
+/// What a segment is for.
+#[derive(Clone, Copy, Debug, PartialEq, Eq)]
+pub enum Role {
+    /// Nothing: its number may be taken.
+    Free,
+    /// Its objects are those of its generation.
+    Current,
+    /// A collection copies its objects out, or holds them at their place.
+    From,
+}
+
+/// A segment of one space and one generation.
+#[derive(Drop)]
+pub struct Segment {
+    space: Space,
+    generation: u8,
+    role: Role,
+    /// A collection kept an object at its place here.
+    was_held: bool,
+    /// Some card is not clean.
+    is_dirty: bool,
+    /// Where the next object would start.
+    top: usize,
+    words: Vec<u64>,
+    /// For each two words the birth of what starts there, or 0.
+    births: Vec<u32>,
+    cards: CardTable,
+    /// For each two words whether the collection that goes on holds what starts there.
+    marks: Vec<bool>,
+}
+
+impl Model for Segment {
+    ghost use Rattle.segment.specs.Segments.{Segment, IsSound};
+
+    ghost Value = { Segment };
+
+    ghost view = { λ a. record {
+      space = a.space;
+      generation = a.generation;
+      role = a.role;
+      was_held = a.was_held;
+      is_dirty = a.is_dirty;
+      top = a.top;
+      words = a.words.items;
+      births = a.births.items;
+      cards = a.cards;
+      marks = a.marks.items;
+    } };
+
+    ghost invariant = { λ a. IsSound (record {
+      space = a.space;
+      generation = a.generation;
+      role = a.role;
+      was_held = a.was_held;
+      is_dirty = a.is_dirty;
+      top = a.top;
+      words = a.words.items;
+      births = a.births.items;
+      cards = a.cards;
+      marks = a.marks.items;
+    }) };
+}
+
+impl Segment {
+    /// The space of its objects.
+    pub fn space(&self) -> Space
+        ensures { result ≡ self.now.space }
+    {
+        self.space
+    }
+
+    /// The generation of its objects.
+    pub fn generation(&self) -> u8
+        ensures { result ≡ self.now.generation }
+    {
+        self.generation
+    }
+
+    /// What it is for.
+    pub fn role(&self) -> Role
+        ensures { result ≡ self.now.role }
+    {
+        self.role
+    }
+
+    /// Whether a collection kept an object at its place here.
+    pub fn was_held(&self) -> bool
+        ensures { result ≡ self.now.was_held }
+    {
+        self.was_held
+    }
+
+    /// Whether some card was marked.
+    pub fn is_dirty(&self) -> bool
+        ensures { result ≡ self.now.is_dirty }
+    {
+        self.is_dirty
+    }
+
+    /// How many words it has.
+    pub fn words(&self) -> usize
+        ensures { result ≡ length self.now.words }
+    {
+        self.words.len()
+    }
+
+    /// Whether an object of so many words fits at the top.
+    pub fn has_room(&self, size: usize) -> bool
+        ensures { IsTrue result ↔ HasRoom self.now size }
+    {
+        size <= self.words.len() - self.top && self.top < 2 * self.births.len()
+    }
+
+    /// Whether an object or cell starts at the offset, in words.
+    pub fn is_start(&self, offset: usize) -> bool
+        ensures { IsTrue result ↔ IsStart self.now (offset / 2) }
+    {
+        self.role != Role::Free && offset / 2 < self.births.len() && self.births[offset / 2] > 0
+    }
+
+    /// The kind of what starts at offset 2 k.
+    pub fn kind(&self, k: usize) -> Kind
+        requires { IsStart self.now k }
+        ensures { result ≡ (object_at self.now k).kind }
+    {
+        kind_of(self.space, self.words[2 * k])
+    }
+
+    /// Its length, in fields or in bytes; of a guardian 0, of a cell 2.
+    pub fn length(&self, k: usize) -> u64
+        requires { IsStart self.now k }
+        ensures { result ≡ (object_at self.now k).length }
+    {
+        length_of(self.space, self.words[2 * k])
+    }
+
+    /// Its birth: the line that made it.
+    pub fn birth(&self, k: usize) -> u32
+        requires { IsStart self.now k }
+        ensures { result ≡ (object_at self.now k).birth }
+    {
+        self.births[k]
+    }
+
+    /// A word of it, counted after the header.
+    pub fn word(&self, k: usize, index: usize) -> u64
+        requires start { IsStart self.now k }
+        requires index_in { index < length (object_at self.now k).words }
+        ensures { result ≡ slice_index (object_at self.now k).words index }
+    {
+        let skip = self.space.skip();
+        self.words[2 * k + skip + index]
+    }
+
+    /// Puts another word there.
+    pub fn put(&mut self, k: usize, index: usize, word: u64)
+        requires start { IsStart self.old k }
+        requires index_in { index < length (object_at self.old k).words }
+        ensures { self.new ≡ put_in self.old k index word }
+    {
+        let skip = self.space.skip();
+        let at = 2 * k + skip + index;
+        self.words[at] = word;
+    }
+
+    /// Notes on the card of a word that it refers to this generation, and says whether the segment was not
+    /// dirty before.
+    pub fn mark(&mut self, k: usize, index: usize, generation: u8) -> bool
+        requires start { IsStart self.old k }
+        requires index_in { index < length (object_at self.old k).words }
+        requires generation_in { generation < 255 }
+        ensures before { IsTrue result ↔ (self.old.is_dirty ≡ false) }
+        ensures after { self.new ≡ marked_at self.old (place_in self.old k index) generation }
+    {
+        let skip = self.space.skip();
+        self.cards.mark(2 * k + skip + index, generation);
+        let was_clean = !self.is_dirty;
+        self.is_dirty = true;
+        was_clean
+    }
+
+    /// Makes an object at the top, and gives its offset: `first` is its first word, and all words after it
+    /// are 0. Takes no memory.
+    pub fn grow(&mut self, first: u64, size: usize, birth: u32) -> usize
+        requires room { HasRoom self.old size }
+        requires size_is { size ≡ size_of self.old.space first }
+        ensures offset { result ≡ self.old.top }
+        ensures after { self.new ≡ grown self.old first size birth }
+    {
+        let at = self.top;
+        self.words[at] = first;
+        self.births[at / 2] = birth;
+        self.top = at + size;
+        at
+    }
+}
