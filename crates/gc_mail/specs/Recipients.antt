@@ -41,4 +41,10 @@ all_of (outbox ∷ outboxes) = outbox ++ all_of outboxes
 
 -- each inbox k has, of the messages that were sent, exactly those for k, in the same order
 abbrev pub IsDelivered : ℕ → List Message → List (List Message) → Type 0
-IsDelivered sweepers sent inboxes = (k : ℕ) → k < sweepers → slice_index_or inboxes k [] ≡ filter (is_for sweepers k) sent
+IsDelivered sweepers sent inboxes =
+    (k : ℕ) → k < sweepers → slice_index_or inboxes k [] ≡ filter (is_for sweepers k) sent
+
+-- whatever the inboxes had before, `more` is delivered after it
+abbrev pub AlsoDelivers : ℕ → List Message → List (List Message) → List (List Message) → Type 0
+AlsoDelivers sweepers more old new =
+    (sent : List Message) → IsDelivered sweepers sent old → IsDelivered sweepers (sent ++ more) new

@@ -1,26 +1,29 @@
 //! Outboxes and inboxes.
 
-ghost use Rattle.std.specs.Prelude.{◌≡◌, [], ◌∷◌, ◌++◌, length, IfOk, OnErr, OnOk, MatchOption};
+ghost use Rattle.std.specs.Prelude.{◌≡◌, [], ◌∷◌, ◌++◌, length, OnErr, OnOk, MatchOption};
 ghost use Rattle.gc_mail.specs.Recipients.{HasRecipient};
 
-use crate::message::{Message, Slot};
+use crate::message::Message;
+use crate::queue::Queue;
 use std::alloc::{AllocError, Global};
-use std::collections::VecDeque;
 use std::marker::Model;
 
 /// What a sweeper tells others, in the order of sending.
 #[derive(Drop)]
 pub struct Outbox {
-    pub(crate) messages: Vec<Message>,
+    messages: Queue,
+    count: usize,
 }
 
 impl Model for Outbox {
-    ghost use Rattle.std.specs.Prelude.{List};
+    ghost use Rattle.std.specs.Prelude.{List, ◌≡◌, length};
     ghost use Rattle.gc_mail.specs.declared.message.Message.{Message};
 
     ghost Value = { List Message };
 
-    ghost view = { λ o. o.messages.items };
+    ghost view = { λ o. o.messages };
+
+    ghost invariant = { λ o. o.count ≡ length o.messages };
 }
 
 impl Outbox {
@@ -29,7 +32,8 @@ impl Outbox {
         ensures { result ≡ [] }
     {
         Outbox {
-            messages: Vec::new(alloc),
+            messages: Queue::new(alloc),
+            count: 0,
         }
     }
 
@@ -37,26 +41,34 @@ impl Outbox {
     pub fn count(&self) -> usize
         ensures { result ≡ length self.now }
     {
-        self.messages.len()
+        self.count
     }
 
-    /// Puts a message last. A `Moved` names a slot other than `Nothing`. Err where memory is refused, which
-    /// changes nothing.
+    /// Puts a message last. A `Moved` names a slot other than `Nothing`. Err where memory is refused, or where
+    /// there would be more messages than a `usize` counts; it changes nothing.
     pub fn send(&mut self, message: Message) -> Result<(), AllocError>
         requires { HasRecipient message }
         ensures ok { OnOk result (self.new ≡ self.old ++ message ∷ []) }
         ensures err { OnErr result (self.new ≡ self.old) }
     {
-        let _slot = back_of(&message);
+        let count = self.count.checked_add(1).ok_or(AllocError)?;
         self.messages.push(message)?;
+        self.count = count;
         Ok(())
+    }
+
+    /// The messages, to be delivered.
+    pub(crate) fn into_messages(self) -> Queue
+        ensures { result ≡ self }
+    {
+        self.messages
     }
 }
 
 /// What a sweeper was told and has not taken up, first come first.
 #[derive(Drop)]
 pub struct Inbox {
-    messages: VecDeque<Message>,
+    messages: Queue,
 }
 
 impl Model for Inbox {
@@ -65,7 +77,7 @@ impl Model for Inbox {
 
     ghost Value = { List Message };
 
-    ghost view = { λ o. o.messages.items };
+    ghost view = { λ i. i.messages };
 }
 
 impl Inbox {
@@ -74,7 +86,7 @@ impl Inbox {
         ensures { result ≡ [] }
     {
         Inbox {
-            messages: VecDeque::new(alloc),
+            messages: Queue::new(alloc),
         }
     }
 
@@ -82,33 +94,30 @@ impl Inbox {
     pub fn next(&mut self) -> Option<Message>
         ensures { MatchOption result ((self.old ≡ []) × (self.new ≡ [])) (λ m. self.old ≡ m ∷ self.new) }
     {
-        self.messages.pop_front()
-    }
-
-    /// An empty one with room for so many messages. Err where memory is refused.
-    pub(crate) fn with_room(alloc: Global, room: usize) -> Result<Inbox, AllocError>
-        ensures { IfOk result (λ i. i ≡ []) }
-    {
-        Ok(Inbox {
-            messages: VecDeque::with_capacity(alloc, room)?,
-        })
+        self.messages.next()
     }
 
     /// Puts a message last. Err where memory is refused.
     pub(crate) fn add(&mut self, message: Message) -> Result<(), AllocError>
         ensures { OnOk result (self.new ≡ self.old ++ message ∷ []) }
     {
-        let _slot = back_of(&message);
-        self.messages.push_back(message)?;
+        self.messages.push(message)?;
         Ok(())
     }
 }
 
-/// The slot that a message names. A proof about a `Message` must have been told of its `Slot`.
-fn back_of(message: &Message) -> Slot {
-    match *message {
-        Message::Forward { back, .. } => back,
-        Message::Watch { back, .. } => back,
-        Message::Moved { back, .. } => back,
+#[cfg(test)]
+mod tests {
+    use super::*;
+    use std::test::Fail;
+
+    /// Says of a type that its values may go to another thread.
+    fn may_cross<T: Send>(_value: &T) {}
+
+    #[test]
+    fn sweepers_take_their_boxes_to_their_threads(rt: HostRuntime) -> Result<(), Fail> {
+        may_cross(&Outbox::new(rt.alloc()));
+        may_cross(&Inbox::new(rt.alloc()));
+        Ok(())
     }
 }

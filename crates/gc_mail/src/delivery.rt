@@ -1,8 +1,7 @@
 //! The exchange between two rounds.
 
-ghost use Rattle.std.specs.Prelude.{◌≡◌, ℕ, ◌+◌, ◌<◌, List, [], ◌∷◌, ◌++◌, length, IfOk, OnOk, vec_len};
-ghost use Rattle.gc_mail.specs.declared.message.Message.{Message};
-ghost use Rattle.gc_mail.specs.Recipients.{all_of, IsDelivered};
+ghost use Rattle.std.specs.Prelude.{◌≡◌, ◌+◌, ◌<◌, [], ◌∷◌, length, IfOk, OnOk, vec_len};
+ghost use Rattle.gc_mail.specs.Recipients.{all_of, IsDelivered, AlsoDelivers};
 
 use crate::boxes::{Inbox, Outbox};
 use crate::message::Message;
@@ -14,9 +13,9 @@ use steps::Steps;
 /// Gives each message to its recipient. There are as many outboxes as sweepers, by sender. Inbox k then
 /// has exactly the messages whose recipient is k, by sender and then by their place in the outbox.
 ///
-/// `mail` takes one step for each message that is delivered. Each message is moved once, into room that is
-/// asked for at once; the time is linear in the messages and the sweepers. Err where memory is refused; the
-/// messages are then dropped.
+/// `mail` takes one step for each message that is delivered. Each message is moved once, and what an outbox
+/// gives back as it is read serves the inboxes; the time is linear in the messages and the sweepers. Err where
+/// memory is refused; the messages are then dropped.
 pub fn exchange<M: Ledger>(
     alloc: Global,
     outboxes: Vec<Outbox>,
@@ -29,55 +28,20 @@ pub fn exchange<M: Ledger>(
     ensures delivered { IfOk result (λ inboxes. IsDelivered sweepers (all_of outboxes.items) inboxes.items) }
     ensures mail { OnOk result (mail.new ≡ mail.old + length (all_of outboxes.items)) }
 {
-    let sizes = inbox_sizes(alloc, &outboxes, sweepers)?;
-    let mut inboxes = empty_inboxes(alloc, &sizes)?;
+    let mut inboxes = empty_inboxes(alloc, sweepers)?;
     for outbox in outboxes {
         deliver_all(&mut inboxes, sweepers, outbox, mail)?;
     }
     Ok(inboxes)
 }
 
-/// How many messages each sweeper is to get. It only says how much room to ask for: no contract rests on
-/// these numbers.
-fn inbox_sizes(alloc: Global, sent: &Vec<Outbox>, sweepers: u32) -> Result<Vec<usize>, AllocError>
-    requires { vec_len sent.now ≡ sweepers }
-    ensures { IfOk result (λ sizes. vec_len sizes ≡ sweepers) }
-{
-    let mut sizes = no_sizes(alloc, sweepers)?;
-    for outbox in sent {
-        add_sizes(&mut sizes, sweepers, outbox);
-    }
-    Ok(sizes)
-}
-
-fn no_sizes(alloc: Global, sweepers: u32) -> Result<Vec<usize>, AllocError>
-    ensures { IfOk result (λ sizes. vec_len sizes ≡ sweepers) }
-{
-    let mut sizes = Vec::new(alloc);
-    for _ in 0..sweepers {
-        sizes.push(0)?;
-    }
-    Ok(sizes)
-}
-
-fn add_sizes(sizes: &mut Vec<usize>, sweepers: u32, outbox: &Outbox)
-    requires some { 0 < sweepers }
-    requires count { vec_len sizes.old ≡ sweepers }
-    ensures { vec_len sizes.new ≡ sweepers }
-{
-    for message in &outbox.messages {
-        let k = recipient(message, sweepers) as usize;
-        sizes[k] = sizes[k].saturating_add(1);
-    }
-}
-
-fn empty_inboxes(alloc: Global, sizes: &Vec<usize>) -> Result<Vec<Inbox>, AllocError>
-    ensures count { IfOk result (λ inboxes. vec_len inboxes ≡ vec_len sizes.now) }
-    ensures delivered { IfOk result (λ inboxes. IsDelivered (vec_len sizes.now) [] inboxes.items) }
+fn empty_inboxes(alloc: Global, sweepers: u32) -> Result<Vec<Inbox>, AllocError>
+    ensures count { IfOk result (λ inboxes. vec_len inboxes ≡ sweepers) }
+    ensures delivered { IfOk result (λ inboxes. IsDelivered sweepers [] inboxes.items) }
 {
     let mut inboxes = Vec::new(alloc);
-    for size in sizes {
-        inboxes.push(Inbox::with_room(alloc, *size)?)?;
+    for _ in 0..sweepers {
+        inboxes.push(Inbox::new(alloc))?;
     }
     Ok(inboxes)
 }
@@ -92,10 +56,10 @@ fn deliver_all<M: Ledger>(
     requires count { vec_len inboxes.old ≡ sweepers }
 
     ensures count { OnOk result (vec_len inboxes.new ≡ sweepers) }
-    ensures delivered { OnOk result ((sent : List Message) → IsDelivered sweepers sent inboxes.old.items → IsDelivered sweepers (sent ++ outbox) inboxes.new.items) }
+    ensures delivered { OnOk result (AlsoDelivers sweepers outbox inboxes.old.items inboxes.new.items) }
     ensures mail { OnOk result (mail.new ≡ mail.old + length outbox) }
 {
-    for message in outbox.messages {
+    for message in outbox.into_messages() {
         deliver(inboxes, sweepers, message)?;
         mail.tick();
     }
@@ -107,7 +71,7 @@ fn deliver(inboxes: &mut Vec<Inbox>, sweepers: u32, message: Message) -> Result<
     requires count { vec_len inboxes.old ≡ sweepers }
 
     ensures count { OnOk result (vec_len inboxes.new ≡ sweepers) }
-    ensures delivered { OnOk result ((sent : List Message) → IsDelivered sweepers sent inboxes.old.items → IsDelivered sweepers (sent ++ message ∷ []) inboxes.new.items) }
+    ensures delivered { OnOk result (AlsoDelivers sweepers (message ∷ []) inboxes.old.items inboxes.new.items) }
 {
     let k = recipient(&message, sweepers) as usize;
     inboxes[k].add(message)
@@ -312,6 +276,7 @@ mod tests {
             (1, 0, None),
             (7, 0, None),
             (64, 0, None),
+            (1, 1600, None),
             (2, 100, Some(1)),
             (7, 100, Some(6)),
             (64, 1000, Some(0)),

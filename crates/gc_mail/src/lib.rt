@@ -5,8 +5,9 @@
 //! each message to its recipient's `Inbox`, by sender and then in the order of writing. For contracts an
 //! outbox and an inbox are lists of messages; `recipient_of` says who gets a message.
 //!
-//! Invariant: none beyond the lists, for an inbox and an outbox are just what was put into them. `send` and
-//! `exchange` take memory; `exchange` asks for each inbox's room at once, and so moves each message once.
+//! Invariant: a box keeps its messages in blocks, of which all but the first and the last one have some; an
+//! outbox's count is its length. Only `send` and `exchange` take memory, a block at a time, so no message is
+//! moved while it waits; a block that was read is given back, and serves the next one.
 //! That owners ask each other by messages is as in Chez Scheme's parallel collector; the protocol and its
 //! words are this project's own.
 #![tactic(auto)]
@@ -14,6 +15,7 @@
 mod boxes;
 mod delivery;
 mod message;
+mod queue;
 mod recipients;
 
 pub use boxes::{Inbox, Outbox};

@@ -1,4 +1,4 @@
 use Rattle.mailcount.proofs.exchanged_once.Given as goal
 
 abbrev pub ghosts-exchanged : goal.ghosts-exchanged
-ghosts-exchanged a = record { name = a.blank.name; parts = a.blank.parts }
+ghosts-exchanged g a = record { name = a.blank.name; parts = a.blank.parts }
