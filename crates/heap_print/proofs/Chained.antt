@@ -13,7 +13,8 @@ use Rattle.gc_words.specs.Word.{value_of}
 use Rattle.heap_store.specs.Starts.{Starts}
 use Rattle.heap_store.specs.Queues.{nil_word}
 use Rattle.territory.specs.Territories.{words_of as words_at}
-use Rattle.heap_print.specs.Shown.{first_of, IsChain}
+use Rattle.heap_print.specs.Words.{first_of}
+use Rattle.heap_print.specs.Chains.{IsChain}
 use Rattle.heap_print.proofs.Numbering.{flipped}
 
 no_nil : (w c : ℕ) → w ≡ nil_word → value_of w ≡ Some (Object c) → ⊥

@@ -22,7 +22,7 @@ use Rattle.segment.specs.Segments.{Start}
 use Rattle.segment.specs.Layout.{space_of, skip_of, words_after, HasLength}
 use Rattle.heap_store.specs.Starts.{Starts, is_cell, is_object, birth_of, object_of, fields_of, byte_at, bytes_of, read_word, IsLaidOut, IsClosed}
 use Rattle.heap_store.specs.Graphs.{GraphStands, IsInGraph, HasPlace}
-use Rattle.heap_print.specs.Shown.{is_of_generation, words_in, AreOfGeneration}
+use Rattle.heap_print.specs.Counting.{is_of_generation, words_in, AreOfGeneration}
 use Rattle.heap_print.proofs.Sums.{sum-same}
 use Rattle.heap_print.proofs.Renamed.{AreApart, same_test}
 use Rattle.heap_print.proofs.Numbering.{flipped}

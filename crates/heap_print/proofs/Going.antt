@@ -25,7 +25,8 @@ use Rattle.heap_store.specs.Queues.{Queue, HasQueue}
 use Rattle.heap_store.specs.Graphs.{IsInGraph}
 use Rattle.heap_store.specs.Stands.{Stands}
 use Rattle.heap_store.specs.Starts.{Starts, is_object, is_cell, birth_of, read, IsClosed}
-use Rattle.heap_print.specs.Shown.{reference, birth_at, by_word, IsReference, shown_words, with_words, word_value, line_text}
+use Rattle.heap_print.specs.Words.{reference, birth_at, by_word, IsReference, shown_words, with_words, word_value}
+use Rattle.heap_print.specs.Lines.{line_text}
 use Rattle.heap_print.proofs.Renamed.{numbers_all}
 use Rattle.heap_print.proofs.Reading.{place_of_reference, named_place, read-renamed, value_text-renamed, IsNamed}
 use Rattle.heap_print.proofs.Printed.{shown_there, words_refer, went_through}

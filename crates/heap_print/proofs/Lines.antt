@@ -12,7 +12,8 @@ use Rattle.gc_words.specs.Layout.{thread_of}
 use Rattle.segment.specs.Segments.{Start}
 use Rattle.heap_store.specs.Starts.{Starts, is_object, birth_of, read_word, object_of, IsWordThere, IsClosed, bytes_of}
 use Rattle.heap_store.specs.Graphs.{IsInGraph}
-use Rattle.heap_print.specs.Shown.{reference, word_value, birth_at, renamed, IsReference, shown_words, word_text, spaced_byte, shown_text, line_text}
+use Rattle.heap_print.specs.Words.{reference, word_value, birth_at, renamed, IsReference, shown_words}
+use Rattle.heap_print.specs.Lines.{word_text, spaced_byte, shown_text, line_text}
 use Rattle.heap_print.proofs.Reading.{read_words-renamed, value_text-renamed, IsNamed, named_word, place_of_reference}
 use Rattle.heap_print.proofs.Printed.{contents_read, shown_there, no_guardian}
 

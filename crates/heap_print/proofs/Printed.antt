@@ -11,7 +11,7 @@ use Rattle.segment.specs.Segments.{Start}
 use Rattle.heap_store.specs.Starts.{Starts, is_cell, is_object, birth_of, has_values, read_word, object_of, IsWordThere, IsLaidOut, IsClosed, bytes_of}
 use Rattle.heap_store.specs.Queues.{Queue, HasQueue, AreCells}
 use Rattle.heap_store.specs.Graphs.{GraphStands, IsInGraph}
-use Rattle.heap_print.specs.Shown.{word_value, birth_at, renamed, IsReference, first_of, shown_words, with_words}
+use Rattle.heap_print.specs.Words.{word_value, birth_at, renamed, IsReference, first_of, shown_words, with_words}
 use Rattle.heap_print.proofs.Renamed.{numbers-map}
 use Rattle.heap_print.proofs.Reading.{read_words-renamed, objects_in-renamed, references_apart, IsNamed, named_word, named_objects}
 

@@ -17,7 +17,8 @@ use Rattle.heap_store.specs.HeapView.{HeapView, start_in, starts_in, starts_of}
 use Rattle.heap_store.specs.Starts.{Starts, is_object, is_cell}
 use Rattle.heap_store.specs.Queues.{Queue, AreCells, HasQueue, first_word_of, nil_word, place_word}
 use Rattle.territory.specs.Territories.{words_of as words_at}
-use Rattle.heap_print.specs.Shown.{first_of, IsChain, shown_words}
+use Rattle.heap_print.specs.Words.{first_of, shown_words}
+use Rattle.heap_print.specs.Chains.{IsChain}
 
 -- what the heap has of a thread is what the thread's territory has
 abbrev pub IsTerritoryOf : Starts → TerritoryView → ℕ → Type 0

@@ -11,7 +11,7 @@ use Rattle.gc_words.specs.Word.{value_of}
 use Rattle.gc_words.proofs.WordLaws.{word_of-object}
 use Rattle.segment.specs.Segments.{Start}
 use Rattle.heap_store.specs.Starts.{Starts, birth_of, is_object, is_cell, read, read_option, read_word, IsThere, IsThereOption, IsWordThere, IsClosed}
-use Rattle.heap_print.specs.Shown.{reference, by_word, by_word_option, word_value, birth_at, renamed, IsReference}
+use Rattle.heap_print.specs.Words.{reference, by_word, by_word_option, word_value, birth_at, renamed, IsReference}
 use Rattle.heap_print.proofs.Renamed.{AreApart, number_of-map}
 
 pub place_of_reference : (a : ℕ) → reference a / 8 ≡ a

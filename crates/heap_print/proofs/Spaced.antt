@@ -7,7 +7,7 @@ use Rattle.std.proofs.lemmas.Grind.{flat_map-append}
 use Rattle.trace_types.specs.Values.{fixnum}
 use Rattle.trace_types.specs.Printing.{byte_text}
 use Rattle.heap_store.specs.Starts.{word_bytes, byte_at, bytes_of}
-use Rattle.heap_print.specs.Shown.{spaced_byte}
+use Rattle.heap_print.specs.Lines.{spaced_byte}
 
 byte_is : (words bytes : List ℕ) (n w : ℕ) → bytes ≡ to_le_bytes w64 w → w ≡ get_or words (n / 8) 0 → get_or bytes (n % 8) 0 ≡ byte_at words n
 unfolding word_bytes

@@ -12,7 +12,7 @@ ghost use Rattle.heap_store.specs.HeapView.{starts_of};
 ghost use Rattle.heap_store.specs.Starts.{is_object, read};
 ghost use Rattle.heap_store.specs.Calls.{IsValid};
 ghost use Rattle.heap_store.specs.Stands.{Stands};
-ghost use Rattle.heap_print.specs.Shown.{IsReference, reference, birth_at};
+ghost use Rattle.heap_print.specs.Words.{IsReference, reference, birth_at};
 
 use crate::contents::referred;
 use crate::numbers::Numbers;
