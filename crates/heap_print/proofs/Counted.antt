@@ -165,30 +165,30 @@ words-births_of g graph ordered = words_each graph g graph (found_each (λ x o. 
 
 -- ---- places
 
-each_member : (P : ℕ → Type 0) (xs : List ℕ) → ((a : ℕ) → has xs a ≡ true → P a) → AllByRecursion P xs
+pub each_member : (P : ℕ → Type 0) (xs : List ℕ) → ((a : ℕ) → has xs a ≡ true → P a) → AllByRecursion P xs
 each_member P [] h = tt
 each_member P (x ∷ xs) h = (h x (or_left (eqb x x) (has xs x) (nat_eq_equiv.refl x)), each_member P xs (λ a e. h a (or_right (eqb x a) (has xs a) e)))
 
 has-map : (h : ℕ → ℕ) (xs : List ℕ) (a : ℕ) → has xs a ≡ true → has (map h xs) (h a) ≡ true
 has-map h [] a e = absurd (false≢true e)
 has-map h (x ∷ xs) a e = elim (or_cases (eqb x a) (has xs a) e) [
-      | inl same ↦ or_left (eqb (h x) (h a)) (has (map h xs) (h a)) (eq-eqb (h x) (h a) (ap h (eqb-true x a same)))
-      | inr rest ↦ or_right (eqb (h x) (h a)) (has (map h xs) (h a)) (has-map h xs a rest)
-    ]
+  | inl same ↦ or_left (eqb (h x) (h a)) (has (map h xs) (h a)) (eq-eqb (h x) (h a) (ap h (eqb-true x a same)))
+  | inr rest ↦ or_right (eqb (h x) (h a)) (has (map h xs) (h a)) (has-map h xs a rest)
+]
 
 from_map : (h : ℕ → ℕ) (xs : List ℕ) (b : ℕ) → has (map h xs) b ≡ true → (a : ℕ) × (has xs a ≡ true) × (h a ≡ b)
 from_map h [] b e = absurd (false≢true e)
 from_map h (x ∷ xs) b e = elim (or_cases (eqb (h x) b) (has (map h xs) b) e) [
-      | inl same ↦ (x, or_left (eqb x x) (has xs x) (nat_eq_equiv.refl x), eqb-true (h x) b same)
-      | inr rest ↦ let found = from_map h xs b rest in (found.0, or_right (eqb x found.0) (has xs found.0) found.1, found.2)
-    ]
+  | inl same ↦ (x, or_left (eqb x x) (has xs x) (nat_eq_equiv.refl x), eqb-true (h x) b same)
+  | inr rest ↦ let found = from_map h xs b rest in (found.0, or_right (eqb x found.0) (has xs found.0) found.1, found.2)
+]
 
-both_ways : (p q : Bool) → (p ≡ true → q ≡ true) → (q ≡ true → p ≡ true) → p ≡ q
+pub both_ways : (p q : Bool) → (p ≡ true → q ≡ true) → (q ≡ true → p ≡ true) → p ≡ q
 both_ways true q h k = sym (h refl)
 both_ways false true h k = k refl
 both_ways false false h k = refl
 
-distinct-map : (P : ℕ → Type 0) (h : ℕ → ℕ) → AreApart P h → (xs : List ℕ) → AllByRecursion P xs → IsDistinct eqb xs → IsDistinct eqb (map h xs)
+pub distinct-map : (P : ℕ → Type 0) (h : ℕ → ℕ) → AreApart P h → (xs : List ℕ) → AllByRecursion P xs → IsDistinct eqb xs → IsDistinct eqb (map h xs)
 unfolding IsDistinct
 distinct-map P h apart [] all d = tt
 distinct-map P h apart (x ∷ xs) all d = (others xs all.1 d.0, distinct-map P h apart xs all.1 d.1)
@@ -264,10 +264,11 @@ module _ (f : Starts) (graph : Graph) (stands : GraphStands f graph) (closed : I
           let old = (found_there place.place place.start place.here place.no_cell).0 in
           let found : object_at graph place.start.birth ≡ Some o = ap (object_at graph) place.same_birth ∙ p in
           let same : place.start.generation ≡ g =
-              sym (eqb-true o.generation place.start.generation (sym (ap (is_old place.start.generation) found) ∙ old)) ∙ eqb-true o.generation g q in
-          (place.place,
-              ap (is_of_generation g) place.here ∙ ap (λ c. not c && (place.start.generation == g)) place.no_cell ∙ eq-eqb place.start.generation g same,
-              ap birth_of place.here ∙ place.same_birth)
+          sym (eqb-true o.generation place.start.generation (sym (ap (is_old place.start.generation) found) ∙ old)) ∙ eqb-true o.generation g q in (
+            place.place,
+            ap (is_of_generation g) place.here ∙ ap (λ c. not c && (place.start.generation == g)) place.no_cell ∙ eq-eqb place.start.generation g same,
+            ap birth_of place.here ∙ place.same_birth,
+          )
 
   module _ (ordered : IsTrue (is_sorted nat_cmp graph)) (g : ℕ) (places : List ℕ) (these : AreOfGeneration f g places) where
     are_places : AllByRecursion (IsPlace f) places
@@ -276,9 +277,9 @@ module _ (f : Starts) (graph : Graph) (stands : GraphStands f graph) (closed : I
     same_births : (b : ℕ) → has (births_of g graph) b ≡ has (map (birth_in f) places) b
     same_births b = both_ways (has (births_of g graph) b) (has (map (birth_in f) places) b)
         (λ e. let place = place_there g b (sym (has-births_of g graph ordered b) ∙ e) in
-            subst (λ c. has (map (birth_in f) places) c ≡ true) place.2 (has-map (birth_in f) places place.0 (these.these place.0 ∙ place.1)))
+        subst (λ c. has (map (birth_in f) places) c ≡ true) place.2 (has-map (birth_in f) places place.0 (these.these place.0 ∙ place.1)))
         (λ e. let place = from_map (birth_in f) places b e in
-            has-births_of g graph ordered b ∙ subst (λ c. is_old g (object_at graph c) ≡ true) place.2 (old_there g place.0 (sym (these.these place.0) ∙ place.1)))
+        has-births_of g graph ordered b ∙ subst (λ c. is_old g (object_at graph c) ≡ true) place.2 (old_there g place.0 (sym (these.these place.0) ∙ place.1)))
 
     once_births : IsDistinct eqb (births_of g graph)
     once_births = IsDistinct-keys_filter eqb (λ e. e.1.generation == g) graph (distinct_births graph ordered)

@@ -56,10 +56,10 @@ line_shown f graph a x g closed here object refers numbers all =
     let there = shown_there f a x g.cells g.queue (closed.laid_out a x here) g.has_queue object in
     let place : f (reference a / 8) ≡ Some x = ap f (place_of_reference a) ∙ here in
     let named : value_text (map (birth_at f) numbers) (values.object x.birth) ≡ value_text numbers (values.object (reference a)) =
-        ap (λ (o : Option Start). value_text (map (birth_at f) numbers) (values.object (birth_of o))) (sym place)
-        ∙ value_text-renamed f closed numbers all (values.object (reference a)) refers in
+    ap (λ (o : Option Start). value_text (map (birth_at f) numbers) (values.object (birth_of o))) (sym place)
+    ∙ value_text-renamed f closed numbers all (values.object (reference a)) refers in
     let shown = text_shown f a x closed g.cells g.queue numbers all there (contents_read f a x g.cells g.queue g.has_queue) in
     let line : List ℕ → ℕ → List ℕ → List ℕ = λ number thread text.
-        number ++ codes " " ++ kind_word x.kind ++ codes " g" ++ generation_word x.generation ++ codes " t" ++ decimal thread ++ text ++ 10 ∷ [] in
+    number ++ codes " " ++ kind_word x.kind ++ codes " g" ++ generation_word x.generation ++ codes " t" ++ decimal thread ++ text ++ 10 ∷ [] in
     ap (λ number. line number (thread_of a) (flat_map (content_text (map (birth_at f) numbers) x.kind) (contents (object_of f a x g.queue)))) named
     ∙ ap (λ text. line (value_text numbers (values.object (reference a))) (thread_of a) text) shown

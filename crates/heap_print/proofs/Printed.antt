@@ -70,6 +70,7 @@ contents_named f a x cells queue h object = by (has_bytes x.kind) refl
     values_case e =
         ap objects_in (contents_read f a x cells queue h e ∙ read_words-renamed f (shown_words f x cells))
         ∙ objects_in-renamed (birth_at f) (map word_value (shown_words f x cells))
+
     by : (bytes : Bool) → has_bytes x.kind ≡ bytes → objects_in (contents (object_of f a x queue)) ≡ map (birth_at f) (objects_in (map word_value (shown_words f x cells)))
     by true e = rw (e, no_guardian x.kind e) (bytes_name_nothing (bytes_of x.words x.length))
     by false e = values_case e

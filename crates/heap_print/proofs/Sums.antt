@@ -40,17 +40,17 @@ has-without x q (y ∷ ys) = by (has-without x q ys) (eqb x y) (eqb x q) (eqb y 
 all-without : (P : ℕ → Type 0) (x : ℕ) (ys : List ℕ) → AllByRecursion P ys → AllByRecursion P (without x ys)
 all-without P x [] h = tt
 all-without P x (y ∷ ys) h = elim (eqb x y) as (λ b. AllByRecursion P (cond (not b) (y ∷ without x ys) (without x ys))) [
-      | true ↦ all-without P x ys h.1
-      | false ↦ (h.0, all-without P x ys h.1)
-    ]
+  | true ↦ all-without P x ys h.1
+  | false ↦ (h.0, all-without P x ys h.1)
+]
 
 distinct-without : (x : ℕ) (ys : List ℕ) → IsDistinct eqb ys → IsDistinct eqb (without x ys)
 unfolding IsDistinct
 distinct-without x [] h = tt
 distinct-without x (y ∷ ys) h = elim (eqb x y) as (λ b. IsDistinct eqb (cond (not b) (y ∷ without x ys) (without x ys))) [
-      | true ↦ distinct-without x ys h.1
-      | false ↦ (all-without (λ z. eqb y z ≡ false) x ys h.0, distinct-without x ys h.1)
-    ]
+  | true ↦ distinct-without x ys h.1
+  | false ↦ (all-without (λ z. eqb y z ≡ false) x ys h.0, distinct-without x ys h.1)
+]
 
 sum-without : (h : ℕ → ℕ) (x : ℕ) (ys : List ℕ) → IsDistinct eqb ys → has ys x ≡ true → sum_by h ys ≡ h x + sum_by h (without x ys)
 unfolding IsDistinct

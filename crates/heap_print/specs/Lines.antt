@@ -1,5 +1,5 @@
 -- What is printed of an object, as text over the numbers of words.
-use Rattle.std.specs.Prelude.{codes, decimal, pos, ℕ, List, ◌∷◌, [], ◌++◌, flat_map, if◌then◌else◌}
+use Rattle.std.specs.Prelude.{◌==◌, codes, decimal, pos, ℕ, List, ◌∷◌, [], ◌++◌, flat_map, if◌then◌else◌}
 use Rattle.gc_words.specs.Layout.{thread_of}
 use Rattle.trace_types.specs.declared.kind.Kind.{Kind}
 use Rattle.trace_types.specs.Words.{kind_word}
@@ -32,3 +32,11 @@ head_text numbers a kind generation =
 -- its line
 abbrev pub line_text : Starts → List ℕ → ℕ → Start → List ℕ → List ℕ
 line_text f numbers a x cells = head_text numbers a x.kind x.generation ++ shown_text f numbers x cells ++ 10 ∷ []
+
+-- ---- the census
+
+-- the line of a generation with so many objects and words, where it has objects
+abbrev pub count_line : ℕ → ℕ → ℕ → List ℕ
+count_line g objects words =
+    if objects == 0 then []
+    else codes "g" ++ generation_word g ++ codes " " ++ decimal objects ++ codes " " ++ decimal words ++ 10 ∷ []

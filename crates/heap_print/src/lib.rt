@@ -2,10 +2,13 @@
 #![tactic(auto)]
 
 mod contents;
+mod counting;
+mod counts;
 mod numbers;
 mod objects;
 mod print;
 mod text;
 
-
+pub use counting::census;
+pub use counts::{Census, census_text};
 pub use print::print_value;
