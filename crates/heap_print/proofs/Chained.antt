@@ -1,9 +1,9 @@
 -- The cells of a queue are as many as their places at most, since each stands once in its chain.
-use Rattle.std.proofs.Common.{◌≡◌, ◌≤◌, ◌<◌, ◌^◌, ◌⊎◌, inl, inr, ◌||◌, ℕ, zero, suc, ◌+◌, ◌*◌, ◌/◌, ◌%◌, eqb, Bool, true, false, List, [], ◌∷◌, ◌++◌, map, length, Option, Some, None, IsTrue, refl, sym, ap, subst, ◌∙◌, arith, slice_index, append-nil}
+use Rattle.std.proofs.Common.{◌≡◌, ◌≤◌, ◌<◌, inl, inr, ◌||◌, ℕ, ◌+◌, eqb, Bool, true, false, List, [], ◌∷◌, ◌++◌, map, length, Some, refl, sym, ap, subst, ◌∙◌, arith, slice_index, append-nil}
 use Rattle.std.specs.List.{AllByRecursion, IsDistinct, list_any}
 use Rattle.std.proofs.lemmas.List.{map-append, length-append}
 use Rattle.std.proofs.Math.Seq.{append_snoc}
-use Rattle.std.proofs.lemmas.Bool.{false≢true, eqb-true, eqb-false, or_cases, cases_Bool}
+use Rattle.std.proofs.lemmas.Bool.{false≢true, eqb-true, or_cases}
 use Rattle.std.proofs.lemmas.Cmp.{nat_eq_equiv}
 use Rattle.std.proofs.lemmas.Map.Steps.{length-le_from_distinct_below}
 use Rattle.trace_types.specs.Rules.{has}
@@ -15,7 +15,6 @@ use Rattle.heap_store.specs.Queues.{nil_word}
 use Rattle.territory.specs.Territories.{words_of as words_at}
 use Rattle.heap_print.specs.Words.{first_of}
 use Rattle.heap_print.specs.Chains.{IsChain}
-use Rattle.heap_print.proofs.Numbering.{flipped}
 
 no_nil : (w c : ℕ) → w ≡ nil_word → value_of w ≡ Some (Object c) → ⊥
 unfolding value_of

@@ -1,10 +1,10 @@
 -- Counting the objects of the heap counts those of the graph.
-use Rattle.std.proofs.Common.{◌≡◌, ◌≢◌, ◌≤◌, ◌⊎◌, inl, inr, ℕ, zero, suc, ◌+◌, ◌*◌, ◌/◌, ◌==◌, eqb, cond, not, ◌&&◌, ◌||◌, Bool, true, false, List, [], ◌∷◌, ◌++◌, map, filter, length, replicate, Option, Some, None, IsTrue, refl, sym, ap, subst, ◌∙◌, arith, pos, if◌then◌else◌}
+use Rattle.std.proofs.Common.{◌≡◌, inl, inr, ℕ, ◌+◌, ◌*◌, ◌/◌, ◌==◌, eqb, cond, not, ◌&&◌, ◌||◌, Bool, true, false, List, [], ◌∷◌, map, length, Option, Some, None, IsTrue, refl, sym, ap, subst, ◌∙◌, pos}
 use Rattle.std.specs.List.{AllByRecursion, IsDistinct, sum_by, range_with_len}
 use Rattle.std.specs.FinMap.{is_sorted}
 use Rattle.std.specs.FinMap.Entries.{below_all}
 use Rattle.std.specs.Ordering.{nat_cmp}
-use Rattle.std.proofs.lemmas.Bool.{false≢true, and_parts, eqb-true, eqb-false, eq-eqb, or_cases, or_left, or_right}
+use Rattle.std.proofs.lemmas.Bool.{false≢true, and_parts, eqb-true, eq-eqb, or_cases, or_left, or_right}
 use Rattle.std.proofs.lemmas.Cmp.{nat_eq_equiv}
 use Rattle.std.proofs.lemmas.List.{length-map}
 use Rattle.std.proofs.lemmas.List.Sums.{sum_by-cons}
@@ -15,13 +15,12 @@ use Rattle.trace_types.specs.Values as values
 use Rattle.trace_types.specs.Values.{Object, Graph, object_at, is_guardian, has_bytes, size_of}
 use Rattle.trace_types.specs.Rules.{has}
 use Rattle.trace_types.specs.Printing.{of_generation, words_of}
-use Rattle.trace_types.specs.WellFormed.{births, numbers, occurrences}
 use Rattle.trace_types.proofs.Graphs.{find_first}
 use Rattle.trace_types.proofs.Meeting.{found_each, each_above}
 use Rattle.segment.specs.Segments.{Start}
-use Rattle.segment.specs.Layout.{space_of, skip_of, words_after, HasLength}
-use Rattle.heap_store.specs.Starts.{Starts, is_cell, is_object, birth_of, object_of, fields_of, byte_at, bytes_of, read_word, IsLaidOut, IsClosed}
-use Rattle.heap_store.specs.Graphs.{GraphStands, IsInGraph, HasPlace}
+use Rattle.segment.specs.Layout.{space_of, skip_of, words_after}
+use Rattle.heap_store.specs.Starts.{Starts, is_cell, is_object, birth_of, fields_of, byte_at, bytes_of, read_word, IsLaidOut, IsClosed}
+use Rattle.heap_store.specs.Graphs.{GraphStands}
 use Rattle.heap_print.specs.Counting.{is_of_generation, words_in, AreOfGeneration}
 use Rattle.heap_print.proofs.Sums.{sum-same}
 use Rattle.heap_print.proofs.Renamed.{AreApart, same_test}

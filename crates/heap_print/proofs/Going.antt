@@ -1,5 +1,5 @@
 -- Going through the objects of a heap by number gives the numbers that going through the graph gives.
-use Rattle.std.proofs.Common.{◌≡◌, ◌≢◌, ◌≤◌, ◌<◌, ℕ, zero, suc, ◌+◌, ◌*◌, ◌/◌, ◌++◌, cond, not, codes, Bool, true, false, List, [], ◌∷◌, map, fold, flat_map, length, slice_get, get_or, take, append-nil, append_assoc, Option, Some, None, IsTrue, IfSome, IfNone, refl, sym, ap, subst, ◌∙◌, arith}
+use Rattle.std.proofs.Common.{◌≡◌, ◌≤◌, ◌<◌, ℕ, zero, suc, ◌+◌, ◌/◌, ◌++◌, cond, not, codes, Bool, true, false, List, [], ◌∷◌, map, fold, flat_map, length, slice_get, get_or, take, append-nil, append_assoc, Option, Some, None, IsTrue, refl, sym, ap, subst, ◌∙◌, arith}
 use Rattle.std.specs.List.{AllByRecursion}
 use Rattle.std.proofs.lemmas.Bool.{false≢true}
 use Rattle.std.specs.Option.{option_map}
@@ -7,15 +7,14 @@ use Rattle.std.proofs.lemmas.List.{length-map, length-append, map-append, take_m
 use Rattle.std.proofs.lemmas.Grind.{flat_map-append}
 use Rattle.std.proofs.lemmas.Option.{same_Some, get_or_from_slice_get, slice_get-map, slice_get_past, slice_get_within, slice_get-get_or}
 use Rattle.trace_types.proofs.Answering.{found_born}
-use Rattle.trace_types.specs.Values as values
-use Rattle.trace_types.specs.Values.{objects_in, Object, Graph, object_at}
+use Rattle.trace_types.specs.Values.{objects_in, object_at}
 use Rattle.trace_types.specs.States.{State}
 use Rattle.trace_types.specs.Rules.{has, ◌⊆◌}
 use Rattle.trace_types.specs.WellFormed.{births}
 use Rattle.trace_types.specs.Printing.{with_number, numbered, numbered_at, numbering, value_text, object_line, print_text}
 use Rattle.gc_words.specs.declared.value.Value.{Value}
 use Rattle.gc_words.specs.declared.value.Value.TheVariants.{Fixnum, Nil, True, False, Bwp, Object as object}
-use Rattle.gc_words.specs.Word.{value_of, word_of}
+use Rattle.gc_words.specs.Word.{value_of}
 use Rattle.gc_words.proofs.WordLaws.{value_of-word_of}
 use Rattle.gc_words.specs.Layout.{IsAddress}
 use Rattle.segment.specs.Segments.{Start}
@@ -24,7 +23,7 @@ use Rattle.heap_store.specs.HeapView.{HeapView, starts_of}
 use Rattle.heap_store.specs.Queues.{Queue, HasQueue}
 use Rattle.heap_store.specs.Graphs.{IsInGraph}
 use Rattle.heap_store.specs.Stands.{Stands}
-use Rattle.heap_store.specs.Starts.{Starts, is_object, is_cell, birth_of, read, IsClosed}
+use Rattle.heap_store.specs.Starts.{Starts, is_object, is_cell, birth_of, read}
 use Rattle.heap_print.specs.Words.{reference, birth_at, by_word, IsReference, shown_words, with_words, word_value}
 use Rattle.heap_print.specs.Lines.{line_text}
 use Rattle.heap_print.proofs.Renamed.{numbers_all}

@@ -1,20 +1,18 @@
 -- The line of an object of the heap is its line in the graph.
-use Rattle.std.proofs.Common.{◌≡◌, ℕ, ◌+◌, ◌*◌, ◌/◌, pos, decimal, codes, cond, Bool, List, [], ◌∷◌, ◌++◌, map, flat_map, Option, Some, None, IsTrue, true, false, refl, sym, ap, subst, ◌∙◌, arith}
+use Rattle.std.proofs.Common.{◌≡◌, ℕ, ◌/◌, pos, decimal, codes, cond, Bool, List, [], ◌∷◌, ◌++◌, map, flat_map, Option, Some, IsTrue, true, false, refl, sym, ap, ◌∙◌}
 use Rattle.std.specs.List.{AllByRecursion}
-use Rattle.std.proofs.lemmas.Bool.{false≢true}
 use Rattle.trace_types.specs.declared.kind.Kind.{Kind}
-use Rattle.trace_types.specs.declared.kind.Kind.TheVariants as kind
 use Rattle.trace_types.specs.Words.{kind_word}
 use Rattle.trace_types.specs.Values as values
 use Rattle.trace_types.specs.Values.{Object, is_guardian, has_bytes}
-use Rattle.trace_types.specs.Printing.{contents, content_text, value_text, byte_text, generation_word, object_line}
+use Rattle.trace_types.specs.Printing.{contents, content_text, value_text, generation_word, object_line}
 use Rattle.gc_words.specs.Layout.{thread_of}
 use Rattle.segment.specs.Segments.{Start}
 use Rattle.heap_store.specs.Starts.{Starts, is_object, birth_of, read_word, object_of, IsWordThere, IsClosed, bytes_of}
 use Rattle.heap_store.specs.Graphs.{IsInGraph}
 use Rattle.heap_print.specs.Words.{reference, word_value, birth_at, renamed, IsReference, shown_words}
 use Rattle.heap_print.specs.Lines.{word_text, spaced_byte, shown_text, line_text}
-use Rattle.heap_print.proofs.Reading.{read_words-renamed, value_text-renamed, IsNamed, named_word, place_of_reference}
+use Rattle.heap_print.proofs.Reading.{read_words-renamed, value_text-renamed, named_word, place_of_reference}
 use Rattle.heap_print.proofs.Printed.{contents_read, shown_there, no_guardian}
 
 bytes_text : (numbers bytes : List ℕ) (k : Kind) → has_bytes k ≡ true →

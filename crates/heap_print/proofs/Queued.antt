@@ -1,21 +1,19 @@
 -- The cells of a guardian's queue are a chain in the guardian's territory.
-use Rattle.std.proofs.Common.{◌≡◌, ℕ, ◌+◌, ◌*◌, Bool, true, false, cond, List, [], ◌∷◌, map, length, slice_index, slice_get, Option, Some, None, IfSome, IsTrue, refl, sym, ap, subst, ◌∙◌}
+use Rattle.std.proofs.Common.{◌≡◌, ℕ, false, cond, List, [], ◌∷◌, map, length, slice_index, slice_get, Option, Some, None, IfSome, IsTrue, refl, sym, ap, subst, ◌∙◌}
 use Rattle.std.specs.FinMap.{get}
 use Rattle.std.proofs.lemmas.Bool.{false≢true}
-use Rattle.trace_types.specs.Values as values
 use Rattle.trace_types.specs.Values.{is_guardian, has_bytes}
 use Rattle.trace_types.specs.declared.kind.Kind.{Kind}
 use Rattle.trace_types.specs.declared.kind.Kind.TheVariants as kind
 use Rattle.gc_words.specs.declared.value.Value.TheVariants.{Object}
 use Rattle.gc_words.specs.Layout.{thread_of}
-use Rattle.gc_words.specs.Word.{value_of, word_of}
 use Rattle.gc_words.proofs.WordLaws.{value_of-word_of}
 use Rattle.segment.specs.Segments.{Start}
 use Rattle.territory.specs.Territories.{TerritoryView, HaveAddresses}
 use Rattle.heap_store.specs.Calls.{IsValid}
 use Rattle.heap_store.specs.HeapView.{HeapView, start_in, starts_in, starts_of}
 use Rattle.heap_store.specs.Starts.{Starts, is_object, is_cell}
-use Rattle.heap_store.specs.Queues.{Queue, AreCells, HasQueue, first_word_of, nil_word, place_word}
+use Rattle.heap_store.specs.Queues.{Queue, AreCells, HasQueue, first_word_of}
 use Rattle.territory.specs.Territories.{words_of as words_at}
 use Rattle.heap_print.specs.Words.{first_of, shown_words}
 use Rattle.heap_print.specs.Chains.{IsChain}

@@ -1,6 +1,6 @@
 -- Numbers go by places in the heap, and in the definitions by births: a list of births is a list of places with each
 -- place replaced by the birth there. `P` says what a place is, and no two places have one birth.
-use Rattle.std.proofs.Common.{◌≡◌, ◌≢◌, ℕ, suc, ◌==◌, eqb, cond, nat_lt, length, not, Bool, true, false, ◌||◌, List, [], ◌∷◌, ◌++◌, map, fold, position, unwrap_or, Option, Some, None, IsTrue, refl, sym, ap, subst, ◌∙◌}
+use Rattle.std.proofs.Common.{◌≡◌, ℕ, ◌==◌, eqb, cond, nat_lt, length, not, true, false, List, [], ◌∷◌, ◌++◌, map, fold, position, unwrap_or, Option, Some, None, refl, sym, ap, ◌∙◌}
 use Rattle.std.specs.List.{AllByRecursion, prefix_len}
 use Rattle.std.proofs.lemmas.Bool.{eqb-true, eqb-false, eq-eqb}
 use Rattle.std.proofs.lemmas.List.{map-append, length-map}

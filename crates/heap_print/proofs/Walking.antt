@@ -1,10 +1,10 @@
 -- Counting the starts of a generation, one after the other and territory by territory.
-use Rattle.std.proofs.Common.{inl, inr, Contains, get_or, ◌≡◌, ◌≢◌, ◌≤◌, ◌<◌, ◌&&◌, ◌||◌, not, ℕ, suc, ◌+◌, ◌*◌, ◌==◌, cond, eqb, nat_lt, Bool, true, false, List, [], ◌∷◌, ◌++◌, take, filter, length, Option, Some, None, IsSome, IfSome, IsTrue, refl, sym, ap, subst, ◌∙◌, arith, slice_get}
+use Rattle.std.proofs.Common.{inl, inr, Contains, get_or, ◌≡◌, ◌≤◌, ◌<◌, ◌&&◌, ◌||◌, not, ℕ, suc, ◌+◌, ◌*◌, ◌==◌, cond, eqb, nat_lt, Bool, true, false, List, [], ◌∷◌, ◌++◌, take, filter, length, Option, Some, None, IsSome, IfSome, refl, sym, ap, subst, ◌∙◌, arith, slice_get}
 use Rattle.std.specs.FinMap.{get}
 use Rattle.std.specs.List.{AllByRecursion, IsDistinct, sum_by}
 use Rattle.std.proofs.Math.Seq.{take-suc}
-use Rattle.std.proofs.lemmas.Bool.{or_cases, or_left, or_right, false≢true, eqb-true, eqb-false, eq-eqb, and_parts, ltb-true, lt-ltb}
-use Rattle.std.proofs.lemmas.List.{take_all, length-append}
+use Rattle.std.proofs.lemmas.Bool.{or_cases, or_left, or_right, false≢true, eqb-true, eqb-false, and_parts, ltb-true, lt-ltb}
+use Rattle.std.proofs.lemmas.List.{take_all}
 use Rattle.std.proofs.lemmas.List.Sums.{sum_by-cons, sum_by-append}
 use Rattle.std.proofs.lemmas.Option.{none-some, slice_get_within, get_or_from_slice_get, slice_get_cases}
 use Rattle.trace_types.specs.Rules.{has}

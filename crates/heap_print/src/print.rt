@@ -116,12 +116,7 @@ fn push_graph(
 /// weak fields and queues included. Takes memory for the numbers; refused, a front of the text may have been
 /// appended, and the heap is as it was. It answers `Failed` exactly where the heap had failed. The text is this
 /// project's own.
-pub fn print_value(
-    alloc: Global,
-    heap: &Heap,
-    value: Operand,
-    text: &mut Vec<u8>,
-) -> Result<(), HeapError>
+pub fn print_value(heap: &Heap, value: Operand, text: &mut Vec<u8>) -> Result<(), HeapError>
     ensures text { OnOk result ((s : State) → Stands heap.now s → text.new.items ≡ text.old.items ++ print_text s.graph (operand_value s value)) }
     ensures failed { (result ≡ Err HeapError.Failed) ↔ (heap.now.failed ≡ true) }
     ensures no_fault { (f : Fault) → result ≢ Err (HeapError.Fault f) }
@@ -130,6 +125,7 @@ pub fn print_value(
         return Err(HeapError::Failed);
     }
     let value = heap.value_of(value)?;
+    let alloc = *text.allocator();
     match push_graph(alloc, heap, &value, text) {
         Ok(()) => Ok(()),
         Err(_) => Err(HeapError::NoMemory),

@@ -1,4 +1,3 @@
-use Rattle.std.specs.FinMap.{get}
 use Rattle.heap_print.proofs.Walking.{CountedSome}
 use Rattle.heap_print.proofs.counting.count_starts.Given as goal
 
