@@ -23,3 +23,6 @@ pub use counting::census;
 pub use counts::{Census, census_text};
 pub use generation::generation_text;
 pub use print::print_value;
+
+#[cfg(test)]
+mod tests;
