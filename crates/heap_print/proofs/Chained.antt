@@ -1,9 +1,9 @@
 -- The cells of a queue are as many as their places at most, since each stands once in its chain.
-use Rattle.std.proofs.Common.{◌≡◌, ◌≤◌, ◌<◌, ◌^◌, ◌⊎◌, inl, inr, ◌||◌, ℕ, zero, suc, ◌+◌, ◌*◌, ◌/◌, ◌%◌, eqb, Bool, true, false, List, [], ◌∷◌, ◌++◌, map, length, Option, Some, None, IsTrue, refl, sym, ap, subst, ◌∙◌, arith, slice_index, append-nil}
+use Rattle.std.proofs.Common.{◌≡◌, ◌≤◌, ◌<◌, inl, inr, ◌||◌, ℕ, ◌+◌, eqb, Bool, true, false, List, [], ◌∷◌, ◌++◌, map, length, Some, refl, sym, ap, subst, ◌∙◌, arith, slice_index, append-nil}
 use Rattle.std.specs.List.{AllByRecursion, IsDistinct, list_any}
 use Rattle.std.proofs.lemmas.List.{map-append, length-append}
 use Rattle.std.proofs.Math.Seq.{append_snoc}
-use Rattle.std.proofs.lemmas.Bool.{false≢true, eqb-true, eqb-false, or_cases, cases_Bool}
+use Rattle.std.proofs.lemmas.Bool.{false≢true, eqb-true, or_cases}
 use Rattle.std.proofs.lemmas.Cmp.{nat_eq_equiv}
 use Rattle.std.proofs.lemmas.Map.Steps.{length-le_from_distinct_below}
 use Rattle.trace_types.specs.Rules.{has}
@@ -13,8 +13,8 @@ use Rattle.gc_words.specs.Word.{value_of}
 use Rattle.heap_store.specs.Starts.{Starts}
 use Rattle.heap_store.specs.Queues.{nil_word}
 use Rattle.territory.specs.Territories.{words_of as words_at}
-use Rattle.heap_print.specs.Shown.{first_of, IsChain}
-use Rattle.heap_print.proofs.Numbering.{flipped}
+use Rattle.heap_print.specs.Words.{first_of}
+use Rattle.heap_print.specs.Chains.{IsChain}
 
 no_nil : (w c : ℕ) → w ≡ nil_word → value_of w ≡ Some (Object c) → ⊥
 unfolding value_of
@@ -38,9 +38,9 @@ onward : (f : Starts) (w : ℕ) (xs : List ℕ) (c : ℕ) → IsChain f w xs →
     (ys : List ℕ) × (length ys < length xs) × IsChain f (slice_index (words_at (f c)) 1) ys
 onward f w [] c h there = absurd (false≢true there)
 onward f w (x ∷ xs) c h there = elim (or_cases (eqb x c) (has xs c) there) [
-      | inl e ↦ (xs, omega arith, subst (λ z. IsChain f (slice_index (words_at (f z)) 1) xs) (eqb-true x c e) h.2)
-      | inr e ↦ let rest = onward f (slice_index (words_at (f x)) 1) xs c h.2 e in (rest.0, omega (arith, rest.1), rest.2)
-    ]
+  | inl e ↦ (xs, omega arith, subst (λ z. IsChain f (slice_index (words_at (f z)) 1) xs) (eqb-true x c e) h.2)
+  | inr e ↦ let rest = onward f (slice_index (words_at (f x)) 1) xs c h.2 e in (rest.0, omega (arith, rest.1), rest.2)
+]
 
 or_both : (a b : Bool) → (a || b) ≡ false → (a ≡ false) × (b ≡ false)
 or_both true b e = absurd (false≢true (sym e))
@@ -58,6 +58,7 @@ cells_once f w (x ∷ xs) h = (others xs (elsewhere (has xs x) refl), cells_once
         let rest = onward f (slice_index (words_at (f x)) 1) xs x h.2 e in
         let same : xs ≡ rest.0 = one_chain f (slice_index (words_at (f x)) 1) xs rest.0 h.2 rest.2 in
         absurd (omega (arith, rest.1, ap length same))
+
     others : (ys : List ℕ) → has ys x ≡ false → AllByRecursion (λ y. eqb x y ≡ false) ys
     others [] e = tt
     others (y ∷ ys) e = (nat_eq_equiv.symm x y ∙ (or_both (eqb y x) (has ys x) e).0, others ys (or_both (eqb y x) (has ys x) e).1)
@@ -135,9 +136,9 @@ distinct_front (x ∷ xs) ys d = (front xs d.0, distinct_front xs ys d.1)
 all_member : (P : ℕ → Type 0) (xs : List ℕ) → AllByRecursion P xs → (q : ℕ) → list_any (eqb q) xs ≡ true → P q
 all_member P [] h q e = absurd (false≢true e)
 all_member P (x ∷ xs) h q e = elim (or_cases (eqb q x) (list_any (eqb q) xs) e) [
-      | inl same ↦ subst P (sym (eqb-true q x same)) h.0
-      | inr rest ↦ all_member P xs h.1 q rest
-    ]
+  | inl same ↦ subst P (sym (eqb-true q x same)) h.0
+  | inr rest ↦ all_member P xs h.1 q rest
+]
 
 -- no chain is so long
 pub never_out : (f : Starts) (cells : List ℕ) (first next : ℕ) (words : List ℕ) (count : ℕ) → IsChain f first cells → Walked f cells next words count → 2305843009213693952 < count → ⊥

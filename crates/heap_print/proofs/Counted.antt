@@ -1,10 +1,10 @@
 -- Counting the objects of the heap counts those of the graph.
-use Rattle.std.proofs.Common.{◌≡◌, ◌≢◌, ◌≤◌, ◌⊎◌, inl, inr, ℕ, zero, suc, ◌+◌, ◌*◌, ◌/◌, ◌==◌, eqb, cond, not, ◌&&◌, ◌||◌, Bool, true, false, List, [], ◌∷◌, ◌++◌, map, filter, length, replicate, Option, Some, None, IsTrue, refl, sym, ap, subst, ◌∙◌, arith, pos, if◌then◌else◌}
+use Rattle.std.proofs.Common.{◌≡◌, inl, inr, ℕ, ◌+◌, ◌*◌, ◌/◌, ◌==◌, eqb, cond, not, ◌&&◌, ◌||◌, Bool, true, false, List, [], ◌∷◌, map, length, Option, Some, None, IsTrue, refl, sym, ap, subst, ◌∙◌, pos}
 use Rattle.std.specs.List.{AllByRecursion, IsDistinct, sum_by, range_with_len}
 use Rattle.std.specs.FinMap.{is_sorted}
 use Rattle.std.specs.FinMap.Entries.{below_all}
 use Rattle.std.specs.Ordering.{nat_cmp}
-use Rattle.std.proofs.lemmas.Bool.{false≢true, and_parts, eqb-true, eqb-false, eq-eqb, or_cases, or_left, or_right}
+use Rattle.std.proofs.lemmas.Bool.{false≢true, and_parts, eqb-true, eq-eqb, or_cases, or_left, or_right}
 use Rattle.std.proofs.lemmas.Cmp.{nat_eq_equiv}
 use Rattle.std.proofs.lemmas.List.{length-map}
 use Rattle.std.proofs.lemmas.List.Sums.{sum_by-cons}
@@ -15,14 +15,13 @@ use Rattle.trace_types.specs.Values as values
 use Rattle.trace_types.specs.Values.{Object, Graph, object_at, is_guardian, has_bytes, size_of}
 use Rattle.trace_types.specs.Rules.{has}
 use Rattle.trace_types.specs.Printing.{of_generation, words_of}
-use Rattle.trace_types.specs.WellFormed.{births, numbers, occurrences}
 use Rattle.trace_types.proofs.Graphs.{find_first}
 use Rattle.trace_types.proofs.Meeting.{found_each, each_above}
 use Rattle.segment.specs.Segments.{Start}
-use Rattle.segment.specs.Layout.{space_of, skip_of, words_after, HasLength}
-use Rattle.heap_store.specs.Starts.{Starts, is_cell, is_object, birth_of, object_of, fields_of, byte_at, bytes_of, read_word, IsLaidOut, IsClosed}
-use Rattle.heap_store.specs.Graphs.{GraphStands, IsInGraph, HasPlace}
-use Rattle.heap_print.specs.Shown.{is_of_generation, words_in, AreOfGeneration}
+use Rattle.segment.specs.Layout.{space_of, skip_of, words_after}
+use Rattle.heap_store.specs.Starts.{Starts, is_cell, is_object, birth_of, fields_of, byte_at, bytes_of, read_word, IsLaidOut, IsClosed}
+use Rattle.heap_store.specs.Graphs.{GraphStands}
+use Rattle.heap_print.specs.Counting.{is_of_generation, words_in, AreOfGeneration}
 use Rattle.heap_print.proofs.Sums.{sum-same}
 use Rattle.heap_print.proofs.Renamed.{AreApart, same_test}
 use Rattle.heap_print.proofs.Numbering.{flipped}
@@ -165,30 +164,30 @@ words-births_of g graph ordered = words_each graph g graph (found_each (λ x o. 
 
 -- ---- places
 
-each_member : (P : ℕ → Type 0) (xs : List ℕ) → ((a : ℕ) → has xs a ≡ true → P a) → AllByRecursion P xs
+pub each_member : (P : ℕ → Type 0) (xs : List ℕ) → ((a : ℕ) → has xs a ≡ true → P a) → AllByRecursion P xs
 each_member P [] h = tt
 each_member P (x ∷ xs) h = (h x (or_left (eqb x x) (has xs x) (nat_eq_equiv.refl x)), each_member P xs (λ a e. h a (or_right (eqb x a) (has xs a) e)))
 
 has-map : (h : ℕ → ℕ) (xs : List ℕ) (a : ℕ) → has xs a ≡ true → has (map h xs) (h a) ≡ true
 has-map h [] a e = absurd (false≢true e)
 has-map h (x ∷ xs) a e = elim (or_cases (eqb x a) (has xs a) e) [
-      | inl same ↦ or_left (eqb (h x) (h a)) (has (map h xs) (h a)) (eq-eqb (h x) (h a) (ap h (eqb-true x a same)))
-      | inr rest ↦ or_right (eqb (h x) (h a)) (has (map h xs) (h a)) (has-map h xs a rest)
-    ]
+  | inl same ↦ or_left (eqb (h x) (h a)) (has (map h xs) (h a)) (eq-eqb (h x) (h a) (ap h (eqb-true x a same)))
+  | inr rest ↦ or_right (eqb (h x) (h a)) (has (map h xs) (h a)) (has-map h xs a rest)
+]
 
 from_map : (h : ℕ → ℕ) (xs : List ℕ) (b : ℕ) → has (map h xs) b ≡ true → (a : ℕ) × (has xs a ≡ true) × (h a ≡ b)
 from_map h [] b e = absurd (false≢true e)
 from_map h (x ∷ xs) b e = elim (or_cases (eqb (h x) b) (has (map h xs) b) e) [
-      | inl same ↦ (x, or_left (eqb x x) (has xs x) (nat_eq_equiv.refl x), eqb-true (h x) b same)
-      | inr rest ↦ let found = from_map h xs b rest in (found.0, or_right (eqb x found.0) (has xs found.0) found.1, found.2)
-    ]
+  | inl same ↦ (x, or_left (eqb x x) (has xs x) (nat_eq_equiv.refl x), eqb-true (h x) b same)
+  | inr rest ↦ let found = from_map h xs b rest in (found.0, or_right (eqb x found.0) (has xs found.0) found.1, found.2)
+]
 
-both_ways : (p q : Bool) → (p ≡ true → q ≡ true) → (q ≡ true → p ≡ true) → p ≡ q
+pub both_ways : (p q : Bool) → (p ≡ true → q ≡ true) → (q ≡ true → p ≡ true) → p ≡ q
 both_ways true q h k = sym (h refl)
 both_ways false true h k = k refl
 both_ways false false h k = refl
 
-distinct-map : (P : ℕ → Type 0) (h : ℕ → ℕ) → AreApart P h → (xs : List ℕ) → AllByRecursion P xs → IsDistinct eqb xs → IsDistinct eqb (map h xs)
+pub distinct-map : (P : ℕ → Type 0) (h : ℕ → ℕ) → AreApart P h → (xs : List ℕ) → AllByRecursion P xs → IsDistinct eqb xs → IsDistinct eqb (map h xs)
 unfolding IsDistinct
 distinct-map P h apart [] all d = tt
 distinct-map P h apart (x ∷ xs) all d = (others xs all.1 d.0, distinct-map P h apart xs all.1 d.1)
@@ -264,10 +263,11 @@ module _ (f : Starts) (graph : Graph) (stands : GraphStands f graph) (closed : I
           let old = (found_there place.place place.start place.here place.no_cell).0 in
           let found : object_at graph place.start.birth ≡ Some o = ap (object_at graph) place.same_birth ∙ p in
           let same : place.start.generation ≡ g =
-              sym (eqb-true o.generation place.start.generation (sym (ap (is_old place.start.generation) found) ∙ old)) ∙ eqb-true o.generation g q in
-          (place.place,
-              ap (is_of_generation g) place.here ∙ ap (λ c. not c && (place.start.generation == g)) place.no_cell ∙ eq-eqb place.start.generation g same,
-              ap birth_of place.here ∙ place.same_birth)
+          sym (eqb-true o.generation place.start.generation (sym (ap (is_old place.start.generation) found) ∙ old)) ∙ eqb-true o.generation g q in (
+            place.place,
+            ap (is_of_generation g) place.here ∙ ap (λ c. not c && (place.start.generation == g)) place.no_cell ∙ eq-eqb place.start.generation g same,
+            ap birth_of place.here ∙ place.same_birth,
+          )
 
   module _ (ordered : IsTrue (is_sorted nat_cmp graph)) (g : ℕ) (places : List ℕ) (these : AreOfGeneration f g places) where
     are_places : AllByRecursion (IsPlace f) places
@@ -276,9 +276,9 @@ module _ (f : Starts) (graph : Graph) (stands : GraphStands f graph) (closed : I
     same_births : (b : ℕ) → has (births_of g graph) b ≡ has (map (birth_in f) places) b
     same_births b = both_ways (has (births_of g graph) b) (has (map (birth_in f) places) b)
         (λ e. let place = place_there g b (sym (has-births_of g graph ordered b) ∙ e) in
-            subst (λ c. has (map (birth_in f) places) c ≡ true) place.2 (has-map (birth_in f) places place.0 (these.these place.0 ∙ place.1)))
+        subst (λ c. has (map (birth_in f) places) c ≡ true) place.2 (has-map (birth_in f) places place.0 (these.these place.0 ∙ place.1)))
         (λ e. let place = from_map (birth_in f) places b e in
-            has-births_of g graph ordered b ∙ subst (λ c. is_old g (object_at graph c) ≡ true) place.2 (old_there g place.0 (sym (these.these place.0) ∙ place.1)))
+        has-births_of g graph ordered b ∙ subst (λ c. is_old g (object_at graph c) ≡ true) place.2 (old_there g place.0 (sym (these.these place.0) ∙ place.1)))
 
     once_births : IsDistinct eqb (births_of g graph)
     once_births = IsDistinct-keys_filter eqb (λ e. e.1.generation == g) graph (distinct_births graph ordered)

@@ -1,5 +1,5 @@
 -- Going through the objects of a heap by number gives the numbers that going through the graph gives.
-use Rattle.std.proofs.Common.{◌≡◌, ◌≢◌, ◌≤◌, ◌<◌, ℕ, zero, suc, ◌+◌, ◌*◌, ◌/◌, ◌++◌, cond, not, codes, Bool, true, false, List, [], ◌∷◌, map, fold, flat_map, length, slice_get, get_or, take, append-nil, append_assoc, Option, Some, None, IsTrue, IfSome, IfNone, refl, sym, ap, subst, ◌∙◌, arith}
+use Rattle.std.proofs.Common.{◌≡◌, ◌≤◌, ◌<◌, ℕ, zero, suc, ◌+◌, ◌/◌, ◌++◌, cond, not, codes, Bool, true, false, List, [], ◌∷◌, map, fold, flat_map, length, slice_get, get_or, take, append-nil, append_assoc, Option, Some, None, IsTrue, refl, sym, ap, subst, ◌∙◌, arith}
 use Rattle.std.specs.List.{AllByRecursion}
 use Rattle.std.proofs.lemmas.Bool.{false≢true}
 use Rattle.std.specs.Option.{option_map}
@@ -7,15 +7,14 @@ use Rattle.std.proofs.lemmas.List.{length-map, length-append, map-append, take_m
 use Rattle.std.proofs.lemmas.Grind.{flat_map-append}
 use Rattle.std.proofs.lemmas.Option.{same_Some, get_or_from_slice_get, slice_get-map, slice_get_past, slice_get_within, slice_get-get_or}
 use Rattle.trace_types.proofs.Answering.{found_born}
-use Rattle.trace_types.specs.Values as values
-use Rattle.trace_types.specs.Values.{objects_in, Object, Graph, object_at}
+use Rattle.trace_types.specs.Values.{objects_in, object_at}
 use Rattle.trace_types.specs.States.{State}
 use Rattle.trace_types.specs.Rules.{has, ◌⊆◌}
 use Rattle.trace_types.specs.WellFormed.{births}
 use Rattle.trace_types.specs.Printing.{with_number, numbered, numbered_at, numbering, value_text, object_line, print_text}
 use Rattle.gc_words.specs.declared.value.Value.{Value}
 use Rattle.gc_words.specs.declared.value.Value.TheVariants.{Fixnum, Nil, True, False, Bwp, Object as object}
-use Rattle.gc_words.specs.Word.{value_of, word_of}
+use Rattle.gc_words.specs.Word.{value_of}
 use Rattle.gc_words.proofs.WordLaws.{value_of-word_of}
 use Rattle.gc_words.specs.Layout.{IsAddress}
 use Rattle.segment.specs.Segments.{Start}
@@ -24,8 +23,9 @@ use Rattle.heap_store.specs.HeapView.{HeapView, starts_of}
 use Rattle.heap_store.specs.Queues.{Queue, HasQueue}
 use Rattle.heap_store.specs.Graphs.{IsInGraph}
 use Rattle.heap_store.specs.Stands.{Stands}
-use Rattle.heap_store.specs.Starts.{Starts, is_object, is_cell, birth_of, read, IsClosed}
-use Rattle.heap_print.specs.Shown.{reference, birth_at, by_word, IsReference, shown_words, with_words, word_value, line_text}
+use Rattle.heap_store.specs.Starts.{Starts, is_object, is_cell, birth_of, read}
+use Rattle.heap_print.specs.Words.{reference, birth_at, by_word, IsReference, shown_words, with_words, word_value}
+use Rattle.heap_print.specs.Lines.{line_text}
 use Rattle.heap_print.proofs.Renamed.{numbers_all}
 use Rattle.heap_print.proofs.Reading.{place_of_reference, named_place, read-renamed, value_text-renamed, IsNamed}
 use Rattle.heap_print.proofs.Printed.{shown_there, words_refer, went_through}
@@ -65,9 +65,9 @@ all_at P (y ∷ xs) (suc n) x all e = all_at P xs n x all.1 e
 
 with_number_grows : (numbers : List ℕ) (x : ℕ) → length numbers ≤ length (with_number numbers x)
 with_number_grows numbers x = elim (has numbers x) as (λ b. length numbers ≤ length (cond b numbers (numbers ++ x ∷ []))) [
-      | true ↦ omega arith
-      | false ↦ omega (arith, length-append numbers (x ∷ []))
-    ]
+  | true ↦ omega arith
+  | false ↦ omega (arith, length-append numbers (x ∷ []))
+]
 
 numbers_grow : (xs numbers : List ℕ) → length numbers ≤ length (fold with_number numbers xs)
 numbers_grow [] numbers = omega arith
@@ -99,13 +99,13 @@ module _ (h : HeapView) (v : Value) (numbers : List ℕ) (n w a : ℕ) (went : W
     went_from (Some x) e is = record {
       refer = subst (AllByRecursion (IsReference (starts_of h))) (sym after_is)
           (numbers_all (IsReference (starts_of h)) (objects_in (map word_value (shown_words (starts_of h) x shown.cells))) numbers went.refer
-              (words_refer (starts_of h) (shown_words (starts_of h) x shown.cells) (shown_there (starts_of h) a x shown.cells shown.queue (valid.stands.closed.laid_out a x e) shown.has_queue is)));
+          (words_refer (starts_of h) (shown_words (starts_of h) x shown.cells) (shown_there (starts_of h) a x shown.cells shown.queue (valid.stands.closed.laid_out a x e) shown.has_queue is)));
       within = omega (arith, slice_get_within numbers n w found, numbers_grow (objects_in (map word_value (shown_words (starts_of h) x shown.cells))) numbers, ap length after_is);
       so_far = λ s stands.
           let here = stands.graph.objects a x e (no_cell_there x is) in
           let born : slice_get (numbered s.graph (read (starts_of h) v) n) n ≡ Some x.birth =
-              ap (λ (bs : List ℕ). slice_get bs n) (sym (went.so_far s stands)) ∙ slice_get-map (birth_at (starts_of h)) numbers n
-              ∙ ap (option_map (birth_at (starts_of h))) found ∙ ap (λ b. Some (birth_of (starts_of h b))) place_is ∙ ap (λ o. Some (birth_of o)) e in
+          ap (λ (bs : List ℕ). slice_get bs n) (sym (went.so_far s stands)) ∙ slice_get-map (birth_at (starts_of h)) numbers n
+          ∙ ap (option_map (birth_at (starts_of h))) found ∙ ap (λ b. Some (birth_of (starts_of h b))) place_is ∙ ap (λ o. Some (birth_of o)) e in
           let next : n + 1 ≡ suc n = omega arith in
           ap (map (birth_at (starts_of h))) (step x here.cells here.queue e here.has_queue)
           ∙ sym (went_through (starts_of h) s.graph a x here stands.closed e is numbers went.refer)
@@ -116,6 +116,7 @@ module _ (h : HeapView) (v : Value) (numbers : List ℕ) (n w a : ℕ) (went : W
       where
         shown : IsInGraph (starts_of h) valid.state.graph a x
         shown = valid.stands.graph.objects a x e (no_cell_there x is)
+
         after_is : after ≡ with_words numbers (shown_words (starts_of h) x shown.cells)
         after_is = step x shown.cells shown.queue e shown.has_queue
 
@@ -141,7 +142,7 @@ pub went_all : (h : HeapView) (v : Value) (numbers : List ℕ) (n : ℕ) → Wen
     (s : State) → Stands h s → map (birth_at (starts_of h)) numbers ≡ numbering s.graph (read (starts_of h) v)
 went_all h v numbers n went done there s stands =
     let count : length (numbered s.graph (read (starts_of h) v) n) ≡ n =
-        ap length (sym (went.so_far s stands)) ∙ length-map numbers (birth_at (starts_of h)) ∙ omega (arith, done, went.within) in
+    ap length (sym (went.so_far s stands)) ∙ length-map numbers (birth_at (starts_of h)) ∙ omega (arith, done, went.within) in
     went.so_far s stands ∙ sym (walked_all h.last s (read (starts_of h) v) stands.well_formed (value_born h s v stands there) n count)
 
 -- ---- lines
@@ -165,20 +166,24 @@ wrote_on h numbers old before after n w a valid refer found at wrote line s stan
   where
     r : IsReference (starts_of h) w
     r = all_at (IsReference (starts_of h)) numbers n w refer found
+
     same : w / 8 ≡ a
     same = same_place (starts_of h) w a r at
+
     there : IsTrue (is_object (starts_of h a))
     there = subst (λ b. IsTrue (is_object (starts_of h b))) same r.there
+
     refers : IsReference (starts_of h) (reference a)
     refers = subst (IsReference (starts_of h)) (r.form ∙ ap reference same) r
+
     by : (o : Option Start) → starts_of h a ≡ o → IsTrue (is_object o) → after ≡ old ++ flat_map (line_of h numbers s) (map (birth_at (starts_of h)) (take (n + 1) numbers))
     by None e is = absurd (false≢true is)
     by (Some x) e is =
         let here = stands.graph.objects a x e (no_cell_there x is) in
         let birth : birth_at (starts_of h) w ≡ x.birth = ap (λ b. birth_of (starts_of h b)) same ∙ ap birth_of e in
         let shown : line_of h numbers s (birth_at (starts_of h) w) ≡ line_text (starts_of h) numbers a x here.cells =
-            ap (line_of h numbers s) birth ∙ ap (object_line (map (birth_at (starts_of h)) numbers) x.birth) here.found
-            ∙ line_shown (starts_of h) s.graph a x here stands.closed e is refers numbers refer in
+        ap (line_of h numbers s) birth ∙ ap (object_line (map (birth_at (starts_of h)) numbers) x.birth) here.found
+        ∙ line_shown (starts_of h) s.graph a x here stands.closed e is refers numbers refer in
         let more : take (n + 1) numbers ≡ take n numbers ++ w ∷ [] = take_more numbers n 0 (slice_get_within numbers n w found) ∙ ap (λ z. take n numbers ++ z ∷ []) (get_or_from_slice_get numbers n w 0 found) in
         line x here.cells here.queue e here.has_queue
         ∙ ap (λ (t : List ℕ). t ++ line_text (starts_of h) numbers a x here.cells) (wrote s stands)
@@ -226,7 +231,7 @@ graph_text h v numbers valid refer small there all old begun shown line text is_
     let births = map (birth_at f) numbers in
     let rest = flat_map (line_of h numbers s) births in
     let value : value_text births (read f v) ≡ value_text numbers (by_word v) =
-        ap (value_text births) (read-renamed f v) ∙ value_text-renamed f valid.stands.closed numbers refer (by_word v) (named_there f v small there) in
+    ap (value_text births) (read-renamed f v) ∙ value_text-renamed f valid.stands.closed numbers refer (by_word v) (named_there f v small there) in
     let whole : List ℕ → List ℕ = λ ns. codes "= " ++ value_text ns (read f v) ++ 10 ∷ [] ++ flat_map (λ birth. object_line ns birth (object_at s.graph birth)) ns in
     lines s stands
     ∙ ap (λ (t : List ℕ). t ++ rest) (is_line ∙ ap (λ (t : List ℕ). t ++ 10 ∷ []) (is_shown ∙ ap (λ (t : List ℕ). t ++ value_text numbers (by_word v)) is_begun))

@@ -9,3 +9,6 @@ pub mod Chained
 pub mod Queued
 pub mod Spaced
 pub mod Going
+pub mod Texts
+pub mod Listed
+pub mod Walking

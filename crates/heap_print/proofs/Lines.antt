@@ -1,19 +1,18 @@
 -- The line of an object of the heap is its line in the graph.
-use Rattle.std.proofs.Common.{◌≡◌, ℕ, ◌+◌, ◌*◌, ◌/◌, pos, decimal, codes, cond, Bool, List, [], ◌∷◌, ◌++◌, map, flat_map, Option, Some, None, IsTrue, true, false, refl, sym, ap, subst, ◌∙◌, arith}
+use Rattle.std.proofs.Common.{◌≡◌, ℕ, ◌/◌, pos, decimal, codes, cond, Bool, List, [], ◌∷◌, ◌++◌, map, flat_map, Option, Some, IsTrue, true, false, refl, sym, ap, ◌∙◌}
 use Rattle.std.specs.List.{AllByRecursion}
-use Rattle.std.proofs.lemmas.Bool.{false≢true}
 use Rattle.trace_types.specs.declared.kind.Kind.{Kind}
-use Rattle.trace_types.specs.declared.kind.Kind.TheVariants as kind
 use Rattle.trace_types.specs.Words.{kind_word}
 use Rattle.trace_types.specs.Values as values
 use Rattle.trace_types.specs.Values.{Object, is_guardian, has_bytes}
-use Rattle.trace_types.specs.Printing.{contents, content_text, value_text, byte_text, generation_word, object_line}
+use Rattle.trace_types.specs.Printing.{contents, content_text, value_text, generation_word, object_line}
 use Rattle.gc_words.specs.Layout.{thread_of}
 use Rattle.segment.specs.Segments.{Start}
 use Rattle.heap_store.specs.Starts.{Starts, is_object, birth_of, read_word, object_of, IsWordThere, IsClosed, bytes_of}
 use Rattle.heap_store.specs.Graphs.{IsInGraph}
-use Rattle.heap_print.specs.Shown.{reference, word_value, birth_at, renamed, IsReference, shown_words, word_text, spaced_byte, shown_text, line_text}
-use Rattle.heap_print.proofs.Reading.{read_words-renamed, value_text-renamed, IsNamed, named_word, place_of_reference}
+use Rattle.heap_print.specs.Words.{reference, word_value, birth_at, renamed, IsReference, shown_words}
+use Rattle.heap_print.specs.Lines.{word_text, spaced_byte, shown_text, line_text}
+use Rattle.heap_print.proofs.Reading.{read_words-renamed, value_text-renamed, named_word, place_of_reference}
 use Rattle.heap_print.proofs.Printed.{contents_read, shown_there, no_guardian}
 
 bytes_text : (numbers bytes : List ℕ) (k : Kind) → has_bytes k ≡ true →
@@ -55,10 +54,10 @@ line_shown f graph a x g closed here object refers numbers all =
     let there = shown_there f a x g.cells g.queue (closed.laid_out a x here) g.has_queue object in
     let place : f (reference a / 8) ≡ Some x = ap f (place_of_reference a) ∙ here in
     let named : value_text (map (birth_at f) numbers) (values.object x.birth) ≡ value_text numbers (values.object (reference a)) =
-        ap (λ (o : Option Start). value_text (map (birth_at f) numbers) (values.object (birth_of o))) (sym place)
-        ∙ value_text-renamed f closed numbers all (values.object (reference a)) refers in
+    ap (λ (o : Option Start). value_text (map (birth_at f) numbers) (values.object (birth_of o))) (sym place)
+    ∙ value_text-renamed f closed numbers all (values.object (reference a)) refers in
     let shown = text_shown f a x closed g.cells g.queue numbers all there (contents_read f a x g.cells g.queue g.has_queue) in
     let line : List ℕ → ℕ → List ℕ → List ℕ = λ number thread text.
-        number ++ codes " " ++ kind_word x.kind ++ codes " g" ++ generation_word x.generation ++ codes " t" ++ decimal thread ++ text ++ 10 ∷ [] in
+    number ++ codes " " ++ kind_word x.kind ++ codes " g" ++ generation_word x.generation ++ codes " t" ++ decimal thread ++ text ++ 10 ∷ [] in
     ap (λ number. line number (thread_of a) (flat_map (content_text (map (birth_at f) numbers) x.kind) (contents (object_of f a x g.queue)))) named
     ∙ ap (λ text. line (value_text numbers (values.object (reference a))) (thread_of a) text) shown

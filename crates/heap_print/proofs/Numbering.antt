@@ -1,8 +1,7 @@
 -- How many objects a print shows: each of them once, and no other than those of the graph.
-use Rattle.std.proofs.Common.{◌≡◌, ◌≤◌, ◌<◌, ◌⊎◌, inl, inr, ℕ, zero, suc, ◌+◌, ◌-◌, ◌==◌, eqb, cond, Bool, true, false, ◌||◌, List, [], ◌∷◌, ◌++◌, map, fold, length, Option, Some, None, slice_get, IsTrue, refl, sym, ap, subst, ◌∙◌, arith}
-use Rattle.std.specs.List.{list_any, AllByRecursion, IsDistinct}
+use Rattle.std.proofs.Common.{◌≡◌, ◌≤◌, inl, inr, ℕ, zero, suc, ◌+◌, ◌-◌, eqb, cond, true, false, List, [], ◌∷◌, ◌++◌, fold, length, Option, Some, None, slice_get, IsTrue, refl, sym, ap, subst, ◌∙◌, arith}
+use Rattle.std.specs.List.{AllByRecursion, IsDistinct}
 use Rattle.std.specs.Set.{is_member}
-use Rattle.std.specs.Cmp.{IsEquivalence}
 use Rattle.std.proofs.lemmas.Cmp.{nat_eq_equiv}
 use Rattle.std.proofs.lemmas.Option.{slice_get_past}
 use Rattle.std.proofs.lemmas.List.{length-map}
@@ -36,9 +35,9 @@ flipped (x ∷ xs) q = rw (nat_eq_equiv.symm x q, flipped xs q) refl
 numbers_distinct : (xs births : List ℕ) → IsDistinct eqb births → IsDistinct eqb (fold with_number births xs)
 numbers_distinct [] births h = h
 numbers_distinct (x ∷ xs) births h = numbers_distinct xs (with_number births x) (elim (has births x) as (λ b. has births x ≡ b → IsDistinct eqb (cond b births (births ++ x ∷ []))) [
-      | true ↦ λ e. h
-      | false ↦ λ e. IsDistinct-push nat_eq_equiv births x h (sym (flipped births x) ∙ e)
-    ] refl)
+  | true ↦ λ e. h
+  | false ↦ λ e. IsDistinct-push nat_eq_equiv births x h (sym (flipped births x) ∙ e)
+] refl)
 
 at_distinct : (graph : Graph) (at : Option ℕ) (births : List ℕ) → IsDistinct eqb births → IsDistinct eqb (numbered_at graph at births)
 at_distinct graph None births h = h
@@ -61,12 +60,12 @@ distinct graph v (suc n) = at_distinct graph (slice_get (numbered graph v n) n) 
 
 with_number_in : (known set : List ℕ) (x : ℕ) → known ⊆ set → IsTrue (has set x) → with_number known x ⊆ set
 with_number_in known set x h there = elim (has known x) as (λ b. cond b known (known ++ x ∷ []) ⊆ set) [
-      | true ↦ h
-      | false ↦ append_sub known (x ∷ []) set h (λ q is. elim (or_cases (eqb x q) false is) [
-            | inl e ↦ subst (λ y. IsTrue (has set y)) (eqb-true x q e) there
-            | inr e ↦ absurd (false≢true e)
-          ])
-    ]
+  | true ↦ h
+  | false ↦ append_sub known (x ∷ []) set h (λ q is. elim (or_cases (eqb x q) false is) [
+    | inl e ↦ subst (λ y. IsTrue (has set y)) (eqb-true x q e) there
+    | inr e ↦ absurd (false≢true e)
+  ])
+]
 
 numbers_in : (xs births set : List ℕ) → births ⊆ set → xs ⊆ set → fold with_number births xs ⊆ set
 numbers_in [] births set h k = h
@@ -75,9 +74,9 @@ numbers_in (x ∷ xs) births set h k =
 
 contents_in : (o : Object) (birth : ℕ) (set : List ℕ) → named_by_object (birth, o) ⊆ set → objects_in (contents o) ⊆ set
 contents_in o birth set h = elim (is_guardian o.kind) as (λ b. objects_in (cond b (queue_values o) o.fields) ⊆ set) [
-      | true ↦ objects_right o.fields (queue_values o) set h
-      | false ↦ objects_left o.fields (queue_values o) set h
-    ]
+  | true ↦ objects_right o.fields (queue_values o) set h
+  | false ↦ objects_left o.fields (queue_values o) set h
+]
 
 -- what an object of the graph refers to
 found_in : (graph : Graph) (set : List ℕ) → AllByRecursion (λ entry. named_by_object entry ⊆ set) graph → (birth : ℕ) → objects_in (contents_at (object_at graph birth)) ⊆ set
@@ -102,8 +101,8 @@ few_numbers last s v well start n =
     let inside = numbered_in s.graph v (births s) (names_parts s (births s) well.in_graph).objects start n in
     let count : length (births s) ≡ length s.graph = length-map s.graph (λ (entry : ℕ × Object). entry.0) in
     subst (λ k. length (numbered s.graph v n) ≤ k) count
-        (length-le_from_is_member nat_eq_equiv (numbered s.graph v n) (births s) (distinct s.graph v n)
-            (λ q there. sym (flipped (births s) q) ∙ inside q (flipped (numbered s.graph v n) q ∙ there)))
+    (length-le_from_is_member nat_eq_equiv (numbered s.graph v n) (births s) (distinct s.graph v n)
+    (λ q there. sym (flipped (births s) q) ∙ inside q (flipped (numbered s.graph v n) q ∙ there)))
 
 -- A walk over the objects by number, each of which gives numbers to what it refers to, ends with all numbers of a print.
 pub walked_all : (last : ℕ) (s : State) (v : Value) → IsWellFormedTo last s → objects_in (v ∷ []) ⊆ births s → (n : ℕ) →

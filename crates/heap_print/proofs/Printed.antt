@@ -1,17 +1,16 @@
 -- What is printed of an object of the heap is what is printed of it in the graph.
-use Rattle.std.proofs.Common.{◌≡◌, ℕ, ◌+◌, ◌*◌, ◌/◌, pos, cond, Bool, List, [], ◌∷◌, ◌++◌, map, fold, flat_map, Option, Some, None, IsTrue, true, false, refl, sym, ap, subst, ◌∙◌, arith}
+use Rattle.std.proofs.Common.{◌≡◌, ℕ, pos, Bool, List, [], ◌∷◌, map, fold, Option, Some, IsTrue, true, false, refl, sym, ap, subst, ◌∙◌}
 use Rattle.std.specs.List.{AllByRecursion}
 use Rattle.trace_types.specs.declared.kind.Kind.{Kind}
 use Rattle.trace_types.specs.declared.kind.Kind.TheVariants as kind
 use Rattle.std.proofs.lemmas.Bool.{false≢true}
-use Rattle.trace_types.specs.Values as values
-use Rattle.trace_types.specs.Values.{objects_in, Object, Graph, object_at, is_guardian, has_bytes, queue_values, fixnum}
+use Rattle.trace_types.specs.Values.{objects_in, Object, Graph, is_guardian, has_bytes, fixnum}
 use Rattle.trace_types.specs.Printing.{contents, contents_at, with_number, numbered_at}
 use Rattle.segment.specs.Segments.{Start}
-use Rattle.heap_store.specs.Starts.{Starts, is_cell, is_object, birth_of, has_values, read_word, object_of, IsWordThere, IsLaidOut, IsClosed, bytes_of}
+use Rattle.heap_store.specs.Starts.{Starts, is_object, read_word, object_of, IsWordThere, IsLaidOut, IsClosed, bytes_of}
 use Rattle.heap_store.specs.Queues.{Queue, HasQueue, AreCells}
-use Rattle.heap_store.specs.Graphs.{GraphStands, IsInGraph}
-use Rattle.heap_print.specs.Shown.{word_value, birth_at, renamed, IsReference, first_of, shown_words, with_words}
+use Rattle.heap_store.specs.Graphs.{IsInGraph}
+use Rattle.heap_print.specs.Words.{word_value, birth_at, IsReference, first_of, shown_words, with_words}
 use Rattle.heap_print.proofs.Renamed.{numbers-map}
 use Rattle.heap_print.proofs.Reading.{read_words-renamed, objects_in-renamed, references_apart, IsNamed, named_word, named_objects}
 
@@ -70,6 +69,7 @@ contents_named f a x cells queue h object = by (has_bytes x.kind) refl
     values_case e =
         ap objects_in (contents_read f a x cells queue h e ∙ read_words-renamed f (shown_words f x cells))
         ∙ objects_in-renamed (birth_at f) (map word_value (shown_words f x cells))
+
     by : (bytes : Bool) → has_bytes x.kind ≡ bytes → objects_in (contents (object_of f a x queue)) ≡ map (birth_at f) (objects_in (map word_value (shown_words f x cells)))
     by true e = rw (e, no_guardian x.kind e) (bytes_name_nothing (bytes_of x.words x.length))
     by false e = values_case e

@@ -1,23 +1,22 @@
 -- The cells of a guardian's queue are a chain in the guardian's territory.
-use Rattle.std.proofs.Common.{◌≡◌, ℕ, ◌+◌, ◌*◌, Bool, true, false, cond, List, [], ◌∷◌, map, length, slice_index, slice_get, Option, Some, None, IfSome, IsTrue, refl, sym, ap, subst, ◌∙◌}
+use Rattle.std.proofs.Common.{◌≡◌, ℕ, false, cond, List, [], ◌∷◌, map, length, slice_index, slice_get, Option, Some, None, IfSome, IsTrue, refl, sym, ap, subst, ◌∙◌}
 use Rattle.std.specs.FinMap.{get}
 use Rattle.std.proofs.lemmas.Bool.{false≢true}
-use Rattle.trace_types.specs.Values as values
 use Rattle.trace_types.specs.Values.{is_guardian, has_bytes}
 use Rattle.trace_types.specs.declared.kind.Kind.{Kind}
 use Rattle.trace_types.specs.declared.kind.Kind.TheVariants as kind
 use Rattle.gc_words.specs.declared.value.Value.TheVariants.{Object}
 use Rattle.gc_words.specs.Layout.{thread_of}
-use Rattle.gc_words.specs.Word.{value_of, word_of}
 use Rattle.gc_words.proofs.WordLaws.{value_of-word_of}
 use Rattle.segment.specs.Segments.{Start}
 use Rattle.territory.specs.Territories.{TerritoryView, HaveAddresses}
 use Rattle.heap_store.specs.Calls.{IsValid}
 use Rattle.heap_store.specs.HeapView.{HeapView, start_in, starts_in, starts_of}
 use Rattle.heap_store.specs.Starts.{Starts, is_object, is_cell}
-use Rattle.heap_store.specs.Queues.{Queue, AreCells, HasQueue, first_word_of, nil_word, place_word}
+use Rattle.heap_store.specs.Queues.{Queue, AreCells, HasQueue, first_word_of}
 use Rattle.territory.specs.Territories.{words_of as words_at}
-use Rattle.heap_print.specs.Shown.{first_of, IsChain, shown_words}
+use Rattle.heap_print.specs.Words.{first_of, shown_words}
+use Rattle.heap_print.specs.Chains.{IsChain}
 
 -- what the heap has of a thread is what the thread's territory has
 abbrev pub IsTerritoryOf : Starts → TerritoryView → ℕ → Type 0
@@ -32,10 +31,11 @@ cells_chained : (f : Starts) (t : TerritoryView) (thread generation : ℕ) → H
 cells_chained f t thread generation placed same [] queue h = refl
 cells_chained f t thread generation placed same (c ∷ cells) [] h = absurd h
 cells_chained f t thread generation placed same (c ∷ cells) (entry ∷ queue) h =
-    let there = sym (same c h.0.thread_is) ∙ h.0.here in
-    (value_of-word_of (Object c) (placed c _ there).0,
-        ap (λ o. length (words_at o)) there,
-        subst (λ w. IsChain (get t.starts) w cells) (ap (λ o. slice_index (words_at o) 1) (sym there)) (cells_chained f t thread generation placed same cells queue h.1))
+    let there = sym (same c h.0.thread_is) ∙ h.0.here in (
+      value_of-word_of (Object c) (placed c _ there).0,
+      ap (λ o. length (words_at o)) there,
+      subst (λ w. IsChain (get t.starts) w cells) (ap (λ o. slice_index (words_at o) 1) (sym there)) (cells_chained f t thread generation placed same cells queue h.1),
+    )
 
 cells_same : (f : Starts) (t : TerritoryView) (thread generation : ℕ) → IsTerritoryOf f t thread →
     (cells : List ℕ) (queue : Queue) → AreCells f thread generation cells queue → map (λ c. first_of (get t.starts c)) cells ≡ map (λ c. first_of (f c)) cells
@@ -61,7 +61,7 @@ module _ (f : Starts) (t : TerritoryView) (a : ℕ) (x : Start) (cells : List �
   pub queue_chained : HaveAddresses t → IsChain (get t.starts) (slice_index x.words 0) cells
   queue_chained placed =
       subst (λ (ws : List ℕ). IsChain (get t.starts) (slice_index ws 0) cells) (sym (h.ends guardian))
-          (cells_chained f t (thread_of a) x.generation placed same cells queue h.are_cells)
+      (cells_chained f t (thread_of a) x.generation placed same cells queue h.are_cells)
 
   pub queue_shown : map (λ c. first_of (get t.starts c)) cells ≡ shown_words f x cells
   queue_shown =
@@ -95,9 +95,11 @@ guardian_chained h a w t valid found placed object guardian word = by (get t.sta
     by None e g = absurd (false≢true (ap is_object (sym (same a refl ∙ e)) ∙ object))
     by (Some x) e g =
         let here : starts_of h a ≡ Some x = same a refl ∙ e in
-        let shown = valid.stands.graph.objects a x here (no_cell_kind x.kind g) in
-        (shown.cells, subst (λ v. IsChain (get t.starts) v shown.cells) (sym (word ∙ ap (λ o. slice_index (words_at o) 0) e))
-            (queue_chained (starts_of h) t a x shown.cells shown.queue same shown.has_queue g placed))
+        let shown = valid.stands.graph.objects a x here (no_cell_kind x.kind g) in (
+          shown.cells,
+          subst (λ v. IsChain (get t.starts) v shown.cells) (sym (word ∙ ap (λ o. slice_index (words_at o) 0) e))
+              (queue_chained (starts_of h) t a x shown.cells shown.queue same shown.has_queue g placed),
+        )
 
 -- The words of its cells are what is printed of it.
 pub guardian_shown : (h : HeapView) (a w : ℕ) (t : TerritoryView) → slice_get h.territories (thread_of a) ≡ Some t → HaveAddresses t →
@@ -109,5 +111,5 @@ guardian_shown h a w t found placed guardian word words read x cells queue here 
     let there : get t.starts a ≡ Some x = sym (same a refl) ∙ here in
     let g : IsTrue (is_guardian x.kind) = subst (λ o. IfSome o (λ y. IsTrue (is_guardian y.kind))) here guardian in
     read cells (subst (λ v. IsChain (get t.starts) v cells) (sym (word ∙ ap (λ o. slice_index (words_at o) 0) there))
-        (queue_chained (starts_of h) t a x cells queue same has g placed))
+    (queue_chained (starts_of h) t a x cells queue same has g placed))
     ∙ queue_shown (starts_of h) t a x cells queue same has g

@@ -1,17 +1,16 @@
 -- A print over the heap, with words in place of births, is the print of the graph.
-use Rattle.std.proofs.Common.{◌≡◌, ℕ, ◌+◌, ◌*◌, ◌/◌, decimal, codes, List, [], ◌∷◌, ◌++◌, map, flat_map, Option, Some, None, IsTrue, true, false, refl, sym, ap, subst, ◌∙◌, arith}
+use Rattle.std.proofs.Common.{◌≡◌, ℕ, ◌/◌, decimal, codes, List, [], ◌∷◌, ◌++◌, map, Option, Some, None, IsTrue, refl, sym, ap, subst, ◌∙◌, arith}
 use Rattle.std.specs.List.{AllByRecursion}
-use Rattle.std.proofs.lemmas.Option.{same_Some}
 use Rattle.trace_types.specs.Values as values
 use Rattle.trace_types.specs.Values.{objects_in}
-use Rattle.trace_types.specs.Printing.{value_text, number_of}
+use Rattle.trace_types.specs.Printing.{value_text}
 use Rattle.gc_words.specs.declared.value.Value.{Value}
 use Rattle.gc_words.specs.declared.value.Value.TheVariants.{Fixnum, Nil, True, False, Bwp, Object}
 use Rattle.gc_words.specs.Word.{value_of}
 use Rattle.gc_words.proofs.WordLaws.{word_of-object}
 use Rattle.segment.specs.Segments.{Start}
-use Rattle.heap_store.specs.Starts.{Starts, birth_of, is_object, is_cell, read, read_option, read_word, IsThere, IsThereOption, IsWordThere, IsClosed}
-use Rattle.heap_print.specs.Shown.{reference, by_word, by_word_option, word_value, birth_at, renamed, IsReference}
+use Rattle.heap_store.specs.Starts.{Starts, birth_of, is_object, read, read_option, read_word, IsThere, IsThereOption, IsWordThere, IsClosed}
+use Rattle.heap_print.specs.Words.{reference, by_word, by_word_option, word_value, birth_at, renamed, IsReference}
 use Rattle.heap_print.proofs.Renamed.{AreApart, number_of-map}
 
 pub place_of_reference : (a : ℕ) → reference a / 8 ≡ a

@@ -1,6 +1,6 @@
 -- Numbers go by places in the heap, and in the definitions by births: a list of births is a list of places with each
 -- place replaced by the birth there. `P` says what a place is, and no two places have one birth.
-use Rattle.std.proofs.Common.{◌≡◌, ◌≢◌, ℕ, suc, ◌==◌, eqb, cond, nat_lt, length, not, Bool, true, false, ◌||◌, List, [], ◌∷◌, ◌++◌, map, fold, position, unwrap_or, Option, Some, None, IsTrue, refl, sym, ap, subst, ◌∙◌}
+use Rattle.std.proofs.Common.{◌≡◌, ℕ, ◌==◌, eqb, cond, nat_lt, length, not, true, false, List, [], ◌∷◌, ◌++◌, map, fold, position, unwrap_or, Option, Some, None, refl, sym, ap, ◌∙◌}
 use Rattle.std.specs.List.{AllByRecursion, prefix_len}
 use Rattle.std.proofs.lemmas.Bool.{eqb-true, eqb-false, eq-eqb}
 use Rattle.std.proofs.lemmas.List.{map-append, length-map}
@@ -13,12 +13,12 @@ AreApart P birth = (x y : ℕ) → P x → P y → birth x ≡ birth y → x ≡
 
 pub same_test : (P : ℕ → Type 0) (birth : ℕ → ℕ) → AreApart P birth → (x y : ℕ) → P x → P y → eqb (birth x) (birth y) ≡ eqb x y
 same_test P birth apart x y px py = elim (eqb x y) as (λ b. eqb x y ≡ b → eqb (birth x) (birth y) ≡ b) [
-      | true ↦ λ e. eq-eqb (birth x) (birth y) (ap birth (eqb-true x y e))
-      | false ↦ λ e. elim (eqb (birth x) (birth y)) as (λ b. eqb (birth x) (birth y) ≡ b → b ≡ false) [
-            | true ↦ λ d. absurd (eqb-false x y e (apart x y px py (eqb-true (birth x) (birth y) d)))
-            | false ↦ λ d. refl
-          ] refl
-    ] refl
+  | true ↦ λ e. eq-eqb (birth x) (birth y) (ap birth (eqb-true x y e))
+  | false ↦ λ e. elim (eqb (birth x) (birth y)) as (λ b. eqb (birth x) (birth y) ≡ b → b ≡ false) [
+    | true ↦ λ d. absurd (eqb-false x y e (apart x y px py (eqb-true (birth x) (birth y) d)))
+    | false ↦ λ d. refl
+  ] refl
+] refl
 
 has-map : (P : ℕ → Type 0) (birth : ℕ → ℕ) → AreApart P birth → (places : List ℕ) (x : ℕ) → AllByRecursion P places → P x →
     has (map birth places) (birth x) ≡ has places x
@@ -30,9 +30,9 @@ pub with_number-map : (P : ℕ → Type 0) (birth : ℕ → ℕ) → AreApart P 
 with_number-map P birth apart places x all px =
     ap (λ b. cond b (map birth places) (map birth places ++ birth x ∷ [])) (has-map P birth apart places x all px)
     ∙ elim (has places x) as (λ b. cond b (map birth places) (map birth places ++ birth x ∷ []) ≡ map birth (cond b places (places ++ x ∷ []))) [
-        | true ↦ refl
-        | false ↦ sym (map-append birth places (x ∷ []))
-      ]
+      | true ↦ refl
+      | false ↦ sym (map-append birth places (x ∷ []))
+    ]
 
 all_pushed : (P : ℕ → Type 0) (places : List ℕ) (x : ℕ) → AllByRecursion P places → P x → AllByRecursion P (places ++ x ∷ [])
 all_pushed P [] x all px = (px, tt)
@@ -40,9 +40,9 @@ all_pushed P (y ∷ places) x all px = (all.0, all_pushed P places x all.1 px)
 
 pub with_number_all : (P : ℕ → Type 0) (places : List ℕ) (x : ℕ) → AllByRecursion P places → P x → AllByRecursion P (with_number places x)
 with_number_all P places x all px = elim (has places x) as (λ b. AllByRecursion P (cond b places (places ++ x ∷ []))) [
-      | true ↦ all
-      | false ↦ all_pushed P places x all px
-    ]
+  | true ↦ all
+  | false ↦ all_pushed P places x all px
+]
 
 pub numbers-map : (P : ℕ → Type 0) (birth : ℕ → ℕ) → AreApart P birth → (xs places : List ℕ) → AllByRecursion P places → AllByRecursion P xs →
     fold with_number (map birth places) (map birth xs) ≡ map birth (fold with_number places xs)

@@ -1,13 +1,12 @@
 -- Bytes that are printed one after the other.
-use Rattle.std.proofs.Common.{◌≡◌, ℕ, ◌+◌, ◌/◌, ◌%◌, pos, codes, List, [], ◌∷◌, ◌++◌, map, flat_map, get_or, append_assoc, refl, sym, ap, ◌∙◌, arith}
-use Rattle.std.specs.List.{range_with_len}
+use Rattle.std.proofs.Common.{◌≡◌, ℕ, ◌+◌, ◌/◌, ◌%◌, pos, codes, List, [], ◌∷◌, ◌++◌, flat_map, get_or, append_assoc, sym, ap, ◌∙◌, arith}
 use Rattle.std.specs.Int.{w64, to_le_bytes}
 use Rattle.std.proofs.lemmas.List.FromFn.{map-range_with_len_more}
 use Rattle.std.proofs.lemmas.Grind.{flat_map-append}
 use Rattle.trace_types.specs.Values.{fixnum}
 use Rattle.trace_types.specs.Printing.{byte_text}
 use Rattle.heap_store.specs.Starts.{word_bytes, byte_at, bytes_of}
-use Rattle.heap_print.specs.Shown.{spaced_byte}
+use Rattle.heap_print.specs.Lines.{spaced_byte}
 
 byte_is : (words bytes : List ℕ) (n w : ℕ) → bytes ≡ to_le_bytes w64 w → w ≡ get_or words (n / 8) 0 → get_or bytes (n % 8) 0 ≡ byte_at words n
 unfolding word_bytes

@@ -1,7 +1,7 @@
 -- Two lists that have the same numbers, each once, have the same sums.
-use Rattle.std.proofs.Common.{◌≡◌, ℕ, ◌+◌, ◌==◌, eqb, cond, not, ◌&&◌, ◌||◌, Bool, true, false, List, [], ◌∷◌, map, filter, IsTrue, refl, sym, ap, subst, ◌∙◌, arith}
-use Rattle.std.specs.List.{AllByRecursion, IsDistinct, sum_by, list_any}
-use Rattle.std.proofs.lemmas.Bool.{false≢true, eqb-true, or_cases, or_left, or_right}
+use Rattle.std.proofs.Common.{◌≡◌, ℕ, ◌+◌, eqb, cond, not, ◌&&◌, ◌||◌, Bool, true, false, List, [], ◌∷◌, filter, refl, sym, ap, subst, ◌∙◌, arith}
+use Rattle.std.specs.List.{AllByRecursion, IsDistinct, sum_by}
+use Rattle.std.proofs.lemmas.Bool.{false≢true, eqb-true, or_left}
 use Rattle.std.proofs.lemmas.Cmp.{nat_eq_equiv}
 use Rattle.std.proofs.lemmas.List.Sums.{sum_by-cons}
 use Rattle.trace_types.specs.Rules.{has}
@@ -40,17 +40,17 @@ has-without x q (y ∷ ys) = by (has-without x q ys) (eqb x y) (eqb x q) (eqb y 
 all-without : (P : ℕ → Type 0) (x : ℕ) (ys : List ℕ) → AllByRecursion P ys → AllByRecursion P (without x ys)
 all-without P x [] h = tt
 all-without P x (y ∷ ys) h = elim (eqb x y) as (λ b. AllByRecursion P (cond (not b) (y ∷ without x ys) (without x ys))) [
-      | true ↦ all-without P x ys h.1
-      | false ↦ (h.0, all-without P x ys h.1)
-    ]
+  | true ↦ all-without P x ys h.1
+  | false ↦ (h.0, all-without P x ys h.1)
+]
 
 distinct-without : (x : ℕ) (ys : List ℕ) → IsDistinct eqb ys → IsDistinct eqb (without x ys)
 unfolding IsDistinct
 distinct-without x [] h = tt
 distinct-without x (y ∷ ys) h = elim (eqb x y) as (λ b. IsDistinct eqb (cond (not b) (y ∷ without x ys) (without x ys))) [
-      | true ↦ distinct-without x ys h.1
-      | false ↦ (all-without (λ z. eqb y z ≡ false) x ys h.0, distinct-without x ys h.1)
-    ]
+  | true ↦ distinct-without x ys h.1
+  | false ↦ (all-without (λ z. eqb y z ≡ false) x ys h.0, distinct-without x ys h.1)
+]
 
 sum-without : (h : ℕ → ℕ) (x : ℕ) (ys : List ℕ) → IsDistinct eqb ys → has ys x ≡ true → sum_by h ys ≡ h x + sum_by h (without x ys)
 unfolding IsDistinct

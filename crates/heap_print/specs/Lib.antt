@@ -1,1 +1,4 @@
-pub mod Shown
+pub mod Words
+pub mod Lines
+pub mod Chains
+pub mod Counting

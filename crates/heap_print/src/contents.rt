@@ -6,7 +6,9 @@ ghost use Rattle.gc_words.specs.Layout.{IsAddress};
 ghost use Rattle.gc_words.specs.Word.{value_of};
 ghost use Rattle.heap_store.specs.Starts.{bytes_of};
 ghost use Rattle.territory.specs.Territories.{words_of as words_at};
-ghost use Rattle.heap_print.specs.Shown.{with_words, word_text, spaced_byte, first_of, IsChain};
+ghost use Rattle.heap_print.specs.Words.{with_words, first_of};
+ghost use Rattle.heap_print.specs.Lines.{word_text, spaced_byte};
+ghost use Rattle.heap_print.specs.Chains.{IsChain};
 
 use crate::numbers::Numbers;
 use crate::text::{push_byte, push_value, push_word};

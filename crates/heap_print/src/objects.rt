@@ -7,15 +7,18 @@ ghost use Rattle.segment.specs.Segments.{Start};
 ghost use Rattle.heap_store.specs.HeapView.{starts_of};
 ghost use Rattle.heap_store.specs.Queues.{Queue, HasQueue};
 ghost use Rattle.heap_store.specs.Starts.{is_object};
-ghost use Rattle.heap_print.specs.Shown.{reference, shown_words, shown_text, head_text, line_text, with_words};
+ghost use Rattle.heap_print.specs.Words.{reference, shown_words, with_words};
+ghost use Rattle.heap_print.specs.Lines.{shown_text, head_text, line_text};
 
-use crate::contents::{number_fields, number_words, push_bytes, push_fields, push_words, queue_words};
+use crate::contents::{
+    number_fields, number_words, push_bytes, push_fields, push_words, queue_words,
+};
 use crate::numbers::Numbers;
 use crate::text::{push_generation, push_number, push_value, push_word};
 use gc_words::{Address, Value};
 use heap_store::Heap;
-use territory::Territory;
 use std::alloc::{AllocError, Global};
+use territory::Territory;
 use trace_types::Kind;
 
 /// What is printed of an object.

@@ -12,7 +12,7 @@ ghost use Rattle.heap_store.specs.HeapView.{starts_of};
 ghost use Rattle.heap_store.specs.Starts.{is_object, read};
 ghost use Rattle.heap_store.specs.Calls.{IsValid};
 ghost use Rattle.heap_store.specs.Stands.{Stands};
-ghost use Rattle.heap_print.specs.Shown.{IsReference, reference, birth_at};
+ghost use Rattle.heap_print.specs.Words.{IsReference, reference, birth_at};
 
 use crate::contents::referred;
 use crate::numbers::Numbers;
@@ -115,12 +115,7 @@ fn push_graph(
 /// Objects are numbered in the order of first visit, going through them by number and through each from left to right,
 /// weak fields and queues included. Takes memory for the numbers and the text; refused, nothing was appended, and the
 /// heap is as it was. It answers `Failed` exactly where the heap had failed. The text is this project's own.
-pub fn print_value(
-    alloc: Global,
-    heap: &Heap,
-    value: Operand,
-    text: &mut Vec<u8>,
-) -> Result<(), HeapError>
+pub fn print_value(heap: &Heap, value: Operand, text: &mut Vec<u8>) -> Result<(), HeapError>
     ensures text { OnOk result ((s : State) → Stands heap.now s → text.new.items ≡ text.old.items ++ print_text s.graph (operand_value s value)) }
     ensures refused { OnErr result (text.new.items ≡ text.old.items) }
     ensures failed { (result ≡ Err HeapError.Failed) ↔ (heap.now.failed ≡ true) }
@@ -130,6 +125,7 @@ pub fn print_value(
         return Err(HeapError::Failed);
     }
     let value = heap.value_of(value)?;
+    let alloc = *text.allocator();
     let mut graph = Vec::new(alloc);
     match push_graph(alloc, heap, &value, &mut graph) {
         Ok(()) => {}

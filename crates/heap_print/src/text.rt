@@ -5,7 +5,7 @@ ghost use Rattle.std.specs.Char.{digit_char};
 ghost use Rattle.std.specs.Fmt.{signed_decimal};
 ghost use Rattle.trace_types.specs.Values.{fixnum};
 ghost use Rattle.trace_types.specs.Printing.{value_text, byte_text, generation_word};
-ghost use Rattle.heap_print.specs.Shown.{by_word};
+ghost use Rattle.heap_print.specs.Words.{by_word};
 
 use crate::numbers::Numbers;
 use gc_words::{Value, encode};

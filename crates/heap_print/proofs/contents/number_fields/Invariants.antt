@@ -1,7 +1,7 @@
 use Rattle.std.proofs.Common.{◌≡◌, take}
 use Rattle.std.specs.FinMap.{get}
 use Rattle.territory.specs.Territories.{words_of as words_at}
-use Rattle.heap_print.specs.Shown.{with_words}
+use Rattle.heap_print.specs.Words.{with_words}
 use Rattle.heap_print.proofs.contents.number_fields.Given as goal
 
 abbrev pub invariant-loop-index : goal.invariant-loop-index

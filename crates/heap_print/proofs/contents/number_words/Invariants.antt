@@ -1,5 +1,5 @@
 use Rattle.std.proofs.Common.{◌≡◌, take}
-use Rattle.heap_print.specs.Shown.{with_words}
+use Rattle.heap_print.specs.Words.{with_words}
 use Rattle.heap_print.proofs.contents.number_words.Given as goal
 
 abbrev pub invariant-loop-word : goal.invariant-loop-word

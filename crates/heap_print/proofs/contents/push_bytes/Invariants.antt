@@ -2,7 +2,7 @@ use Rattle.std.proofs.Common.{◌≡◌, ◌++◌, flat_map}
 use Rattle.std.specs.FinMap.{get}
 use Rattle.heap_store.specs.Starts.{bytes_of}
 use Rattle.territory.specs.Territories.{words_of as words_at}
-use Rattle.heap_print.specs.Shown.{spaced_byte}
+use Rattle.heap_print.specs.Lines.{spaced_byte}
 use Rattle.heap_print.proofs.contents.push_bytes.Given as goal
 
 abbrev pub invariant-loop-index : goal.invariant-loop-index

@@ -1,5 +1,5 @@
 use Rattle.std.proofs.Common.{◌≡◌, ◌++◌, take, flat_map}
-use Rattle.heap_print.specs.Shown.{word_text}
+use Rattle.heap_print.specs.Lines.{word_text}
 use Rattle.heap_print.proofs.contents.push_words.Given as goal
 
 abbrev pub invariant-loop-word : goal.invariant-loop-word

@@ -1,7 +1,4 @@
-use Rattle.std.proofs.Common.{arith, ◌≡◌, length}
-use Rattle.std.specs.FinMap.{get}
-use Rattle.territory.specs.Territories.{words_of as words_at}
-use Rattle.heap_print.specs.Shown.{}
+use Rattle.std.proofs.Common.{arith}
 use Rattle.heap_print.proofs.Chained.{cell_there, walked_next, walked_end, never_out}
 use Rattle.heap_print.proofs.contents.queue_words.Goals as goal
 

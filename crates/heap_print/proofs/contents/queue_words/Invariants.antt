@@ -1,6 +1,6 @@
 use Rattle.std.proofs.Common.{List, ℕ}
 use Rattle.std.specs.FinMap.{get}
-use Rattle.heap_print.specs.Shown.{IsChain}
+use Rattle.heap_print.specs.Chains.{IsChain}
 use Rattle.heap_print.proofs.Chained.{Walked}
 use Rattle.heap_print.proofs.contents.queue_words.Given as goal
 
