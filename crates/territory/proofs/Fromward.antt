@@ -74,9 +74,13 @@ pub from_once : (p : PoolView) (n : ℕ) → IsSettled p → times n (from_list 
 unfolding from_on
 from_once p n t =
     let g : ℕ = (numbered p.segments n).generation in
-    omega (arith, range_once g 0 (9 - 0), times_flat (λ h. chain_of p.lists (10 + h)) (range_with_len 0 (9 - 0)) n g
-    (λ h. elim (cases_lt (10 + h) (length p.lists)) [ inl b ↦ once_in p.lists (10 + h) n t.listed.each_once b | inr far ↦ omega (arith, ap (times n) (get_or_past p.lists (10 + h) [] far)) ])
-    (λ h ne. elim (cases_lt 0 (times n (chain_of p.lists (10 + h)))) [ inr z ↦ omega arith | inl i ↦ absurd (ne (in_from p h n t i).1) ]))
+    omega (
+      arith,
+      range_once g 0 (9 - 0),
+      times_flat (λ h. chain_of p.lists (10 + h)) (range_with_len 0 (9 - 0)) n g
+          (λ h. elim (cases_lt (10 + h) (length p.lists)) [ inl b ↦ once_in p.lists (10 + h) n t.listed.each_once b | inr far ↦ omega (arith, ap (times n) (get_or_past p.lists (10 + h) [] far)) ])
+          (λ h ne. elim (cases_lt 0 (times n (chain_of p.lists (10 + h)))) [ inr z ↦ omega arith | inl i ↦ absurd (ne (in_from p h n t i).1) ]),
+    )
 
 -- ---- the calls
 head_left : (xs ys : List ℕ) (r : Option ℕ) → r ≡ slice_get xs 0 → true ≡ is_some r → r ≡ slice_get (xs ++ ys) 0
