@@ -1,18 +1,18 @@
 -- The from-segments as a list.
-use Rattle.std.proofs.Common.{◌≡◌, ◌≢◌, ℕ, zero, suc, ◌+◌, ◌-◌, ◌*◌, ◌<◌, ◌≤◌, Bool, true, false, cond, eqb, List, [], ◌∷◌, ◌++◌, length, drop, Option, Some, None, is_some, IsSome, IfSome, get_or, Contains, refl, sym, ◌∙◌, ap, subst, arith, inl, inr, append_assoc}
+use Rattle.std.proofs.Common.{◌≡◌, ◌≢◌, ℕ, zero, suc, ◌+◌, ◌-◌, ◌<◌, ◌≤◌, true, false, cond, eqb, List, [], ◌∷◌, ◌++◌, length, Option, Some, None, is_some, IfSome, get_or, Contains, refl, sym, ◌∙◌, ap, subst, arith, inl, inr, append_assoc}
 use Rattle.std.proofs.lemmas.Bool.{cases_eq, cases_lt}
 use Rattle.std.proofs.lemmas.Bool.Decides.{nat_tests}
 use Rattle.std.proofs.lemmas.Option.{slice_get_within, slice_get_past}
 use Rattle.std.proofs.lemmas.List.{get_or_past}
 use Rattle.std.specs.List.{slice_get, flat_map, range_with_len}
-use Rattle.seg_chain.specs.Lists.{chain_of, link_count, times, EachOnce, NextIs}
-use Rattle.seg_chain.proofs.Counts.{times-append, times-le-all}
+use Rattle.seg_chain.specs.Lists.{chain_of, times, NextIs}
+use Rattle.seg_chain.proofs.Counts.{times-append}
 use Rattle.seg_chain.proofs.Laws.{contains_of, times_of}
 use Rattle.segment.specs.declared.segment.Role.{Role}
 use Rattle.segment.specs.declared.segment.Role.TheVariants.{Free, Current, From}
 use Rattle.segment.specs.Segments.{Segment, is_free}
 use Rattle.territory.specs.Territories.{SegmentView, TerritoryView, segment_at, IsNext, IsFrom, AreFromOnes, from_on, from_list}
-use Rattle.territory.specs.Pools.{PoolView, IsSettled, numbered, seen, list_of, list_for, IsIn, territory_view}
+use Rattle.territory.specs.Pools.{PoolView, IsSettled, numbered, seen, list_of, list_for, territory_view}
 use Rattle.territory.specs.declared.territory.Targets.{Targets}
 use Rattle.gc_words.specs.declared.address.TheConstants.{OFFSETS}
 use Rattle.territory.proofs.Numbers.{seen_at}

@@ -1,4 +1,4 @@
-use Rattle.std.proofs.Common.{sym, arith}
+use Rattle.std.proofs.Common.{arith}
 use Rattle.territory.proofs.Nexts.{none_if}
 use Rattle.territory.proofs.Fromward.{first_here, first_later, first_never}
 use Rattle.territory.proofs.pool.Pool.first_from.Goals as goal

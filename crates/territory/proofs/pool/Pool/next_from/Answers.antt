@@ -1,4 +1,3 @@
-use Rattle.std.proofs.Common.{arith}
 use Rattle.territory.proofs.Nexts.{none_if}
 use Rattle.territory.proofs.Fromward.{told_inside, told_beyond}
 use Rattle.territory.proofs.pool.Pool.next_from.Goals as goal
