@@ -15,11 +15,11 @@ use Rattle.territory.specs.Territories.{SegmentView, TerritoryView, segment_at, 
 use Rattle.territory.specs.Pools.{PoolView, IsSettled, numbered, seen, list_of, list_for, territory_view}
 use Rattle.territory.specs.declared.territory.Targets.{Targets}
 use Rattle.gc_words.specs.declared.address.TheConstants.{OFFSETS}
-use Rattle.territory.proofs.Numbers.{seen_at}
+use Rattle.territory.proofs.Numbers.{seen_at, used_within}
 use Rattle.territory.proofs.Growing.{in_at}
 use Rattle.territory.proofs.Asides.{once_in}
 use Rattle.territory.proofs.Nexts.{next_at, get_left, get_right, placed_at, some_there, here_is}
-use Rattle.territory.proofs.Showing.{times_flat, times_flat_in, used_within}
+use Rattle.territory.proofs.Showing.{times_flat, times_flat_in}
 
 -- the first generation of the list, and the others
 pub from_more : (lists : List (List ℕ)) (g : ℕ) → g < 9 → from_on lists g ≡ chain_of lists (10 + g) ++ from_on lists (g + 1)

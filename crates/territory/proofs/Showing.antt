@@ -357,13 +357,6 @@ some_used q u = elim q.role as (λ r. is_free r ≡ false → IsSome (seen (reco
 pub segment_used : (thread : ℕ) (p : PoolView) (targets : Targets) (now : TerritoryView) (n : ℕ) → territory_view thread p targets ≡ now → IsSome (segment_at now n) → is_free (numbered p.segments n).role ≡ false
 segment_used thread p targets now n e h = used_some (numbered p.segments n) (subst IsSome (seen_at p.segments n) (subst (λ v. IsSome (segment_at v n)) (sym e) h))
 
-pub used_within : (segments : List Segment) (n : ℕ) → is_free (numbered segments n).role ≡ false → n < length segments
-used_within segments n u =
-    elim (cases_lt n (length segments)) [
-      | inl b ↦ b
-      | inr far ↦ absurd (let c : true ≡ false = sym (ap (λ (q : Segment). is_free q.role) (numbered_past segments n far)) ∙ u in cc)
-    ]
-
 -- the first start of a segment
 pub first_some : (thread : ℕ) (p : PoolView) (targets : Targets) (now : TerritoryView) (n k a : ℕ) (q : Segment) → territory_view thread p targets ≡ now → IsSettled p → q ≡ numbered p.segments n → IsStart q k → NoneWithin (IsStart q) 0 k → a ≡ address_of now.thread n (2 * k)
     → Some a ≡ slice_get (starts_in now n) 0
