@@ -4,10 +4,12 @@ use Rattle.gc_words.specs.declared.value.Value.{Value}
 use Rattle.gc_words.specs.declared.value.Value.TheVariants as word
 use Rattle.trace_types.specs.declared.operand.Operand.{Operand}
 use Rattle.trace_types.specs.declared.operand.Operand.TheVariants.{Reg, Fixnum, Nil, True, False}
-use Rattle.trace_types.specs.States.{State, Answer}
+use Rattle.trace_types.specs.States.{State, Answer, with_new}
 use Rattle.heap_store.specs.declared.error.HeapError.{HeapError}
 use Rattle.heap_store.specs.declared.error.HeapError.TheVariants.{NoMemory, Fault as IsFault}
-use Rattle.heap_store.specs.HeapView.{HeapView}
+use Rattle.segment.specs.Segments.{Start}
+use Rattle.heap_store.specs.Starts.{fields_of}
+use Rattle.heap_store.specs.HeapView.{HeapView, starts_of}
 use Rattle.heap_store.specs.Changes.{HaveSoundCards}
 use Rattle.heap_store.specs.Stands.{Stands}
 
@@ -24,8 +26,10 @@ abbrev pub Performs : HeapView → (State → Answer) → Result (Unit {0}) Heap
 Performs old answer result new = (s : State) → Stands old s → Obeys s (answer s) result new
 
 -- the same of a call that is told no line, with any line
-abbrev pub PerformsOnAnyLine : HeapView → (State → ℕ → Answer) → Result (Unit {0}) HeapError → HeapView → Type 0
-PerformsOnAnyLine old answer result new = (s : State) (line : ℕ) → Stands old s → Obeys s (answer s line) result new
+abbrev pub PerformsOnAnyLine : HeapView → (State → ℕ → Answer) → Result (Unit {0}) HeapError → HeapView
+    → Type 0
+PerformsOnAnyLine old answer result new =
+    (s : State) (line : ℕ) → Stands old s → Obeys s (answer s line) result new
 
 -- A call that is refused leaves the heap as it was, but for one that ran out of memory: then it has failed.
 abbrev pub IsLeft : Result (Unit {0}) HeapError → HeapView → HeapView → Type 0
@@ -46,3 +50,8 @@ operand_value registers (Fixnum n) = word.Fixnum n
 operand_value registers Nil = word.Nil
 operand_value registers True = word.True
 operand_value registers False = word.False
+
+-- the new heap stands for the state with what starts there as a new object, in register d
+abbrev pub HasMade : HeapView → HeapView → Start → ℕ → ℕ → Type 0
+HasMade old new x line d =
+    (s : State) → Stands old s → Stands new (with_new s line d x.kind (fields_of (starts_of old) x))

@@ -1,5 +1,5 @@
 -- What a call does to a territory and to the starts of a heap.
-use Rattle.std.specs.Prelude.{◌≡◌, ◌≢◌, ℕ, ◌≤◌, false, List, ◌++◌, length, drop, replicate, IsSome, Option, Some, None, slice_get}
+use Rattle.std.specs.Prelude.{◌≡◌, ◌≢◌, ℕ, ◌≤◌, false, List, ◌++◌, length, drop, replicate, IsSome, IfOk, Option, Result, Some, None, slice_get}
 use Rattle.std.specs.FinMap.{get}
 use Rattle.std.specs.Option.{option_map}
 use Rattle.gc_words.specs.Layout.{thread_of}
@@ -56,6 +56,15 @@ new_start kind length birth words = record {
 -- the first words are this one
 abbrev pub filled : ℕ → ℕ → List ℕ → List ℕ
 filled count word words = replicate count word ++ drop count words
+
+-- the first words of the start are this one now
+abbrev pub HasFilled : TerritoryView → TerritoryView → ℕ → ℕ → ℕ → Type 0
+HasFilled old new a count word =
+    (x : Start) → get old.starts a ≡ Some x → IsRewritten old new a x (filled count word x.words)
+
+-- where the call is not refused, this start was added at the place that it gives
+abbrev pub MakesStart : {E : Type 0} → TerritoryView → TerritoryView → Start → Result ℕ E → Type 0
+MakesStart old new x result = IfOk result (λ a. IsMade old new a x)
 
 -- the generation of what starts somewhere
 abbrev pub generation_at : Starts → ℕ → Option ℕ

@@ -91,7 +91,8 @@ Puts old new a x index v refers (Ok _) = IsPut old new a x index v refers
 Puts old new a x index v refers (Err f) = (new ≡ old) × (put_fault x index v ≡ Some f)
 
 abbrev pub PutsThere : TerritoryView → TerritoryView → ℕ → ℕ → Value → ℕ → Result (Unit {0}) Fault → Type 0
-PutsThere old new a index v refers result = IfSome (get old.starts a) (λ x. Puts old new a x index v refers result)
+PutsThere old new a index v refers result =
+    IfSome (get old.starts a) (λ x. Puts old new a x index v refers result)
 
 -- an index below the length is that of a word
 abbrev pub HasRoomFor : ℕ → Start → Type 0
@@ -101,4 +102,5 @@ HasRoomFor index x = index < x.length → word_index x.kind index < length x.wor
 
 -- the generation of the object that the operand is
 abbrev pub generation_in : State → Operand → Option ℕ
-generation_in s value = option_map (λ (o : Object). o.generation) (object_of_value s.graph (operand_value s value))
+generation_in s value =
+    option_map (λ (o : Object). o.generation) (object_of_value s.graph (operand_value s value))

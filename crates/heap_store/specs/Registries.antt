@@ -9,9 +9,12 @@ use Rattle.seg_chain.specs.Lists.{chain_of}
 abbrev pub level_count : ℕ
 level_count = 9
 
+-- no entry is asked for that isn't there
+abbrev pub no_registration : Registration
+no_registration = record { line = 0; guardian = 0; object = word.Nil; representative = word.Nil }
+
 abbrev pub entry_at : List Registration → ℕ → Registration
-entry_at entries index =
-    slice_index_or entries index (record { line = 0; guardian = 0; object = word.Nil; representative = word.Nil })
+entry_at entries index = slice_index_or entries index no_registration
 
 -- the registrations of each level: chain 1 + l has the indices of level l
 abbrev pub levels : List Registration → Option (List (List ℕ)) → List (List Registration)

@@ -78,11 +78,12 @@ generation_of_value f _ = 8
 -- the level of a registration: the least generation of the objects that it names
 abbrev pub level_of : Starts → Registration → ℕ
 level_of f r =
-    min (generation_of (f r.guardian)) (min (generation_of_value f r.object) (generation_of_value f r.representative))
+    min (generation_of (f r.guardian))
+    (min (generation_of_value f r.object) (generation_of_value f r.representative))
 
 -- each list of the registry has the registrations of its level, and all of them are the state's
-pub record RegistryStands (f : Starts) (registry : List (List Registration)) (registrations : List states.Registration)
-    : Type 0 where
+pub record RegistryStands (f : Starts) (registry : List (List Registration))
+    (registrations : List states.Registration) : Type 0 where
   pub there : AllByRecursion (AllByRecursion (IsRegistrationThere f)) registry
   pub levels : (level : ℕ) → level < length registry
       → AllByRecursion (λ r. level_of f r ≡ level) (slice_index_or registry level [])

@@ -1,16 +1,14 @@
 //! The calls that make an object.
 
 ghost use Rattle.std.specs.Prelude.{◌≡◌, ◌==◌, ◌↔◌, ◌<◌, ◌≤◌, if◌then◌else◌, true, false, Ok, Err, OnOk, OnErr, IsTrue};
-ghost use Rattle.trace_types.specs.States.{State, with_new};
 ghost use Rattle.trace_types.specs.Values.{is_guardian};
 ghost use Rattle.trace_types.specs.Steps.{step};
 ghost use Rattle.trace_types.specs.WellFormed.{greatest_line, operand_fits};
-ghost use Rattle.heap_store.specs.Starts.{Keeps, IsLaidOut, is_cell, fields_of};
+ghost use Rattle.heap_store.specs.Starts.{Keeps, IsLaidOut, is_cell};
 ghost use Rattle.heap_store.specs.Shapes.{start_of, HasSize};
 ghost use Rattle.heap_store.specs.HeapView.{starts_of};
 ghost use Rattle.heap_store.specs.Changes.{HaveSoundCards};
-ghost use Rattle.heap_store.specs.Stands.{Stands};
-ghost use Rattle.heap_store.specs.Calls.{Performs, IsLeft};
+ghost use Rattle.heap_store.specs.Calls.{Performs, IsLeft, HasMade};
 
 use crate::error::HeapError;
 use crate::heap::Heap;
@@ -154,8 +152,7 @@ impl Heap {
         requires laid_out { IsLaidOut (starts_of self.old) (start_of line shape) }
         requires no_cell { is_cell (start_of line shape).kind ≡ false }
         requires no_guardian { is_guardian (start_of line shape).kind ≡ false }
-        ensures stands { OnOk result ((s : State) → Stands self.old s
-            → Stands self.new (with_new s line d (start_of line shape).kind (fields_of (starts_of self.old) (start_of line shape)))) }
+        ensures stands { OnOk result (HasMade self.old self.new (start_of line shape) line d) }
         ensures kept { OnOk result (Keeps (starts_of self.old) (starts_of self.new)) }
         ensures cards { OnOk result (HaveSoundCards self.new.territories) }
         ensures refused { OnErr result ((result ≡ Err HeapError.NoMemory) × (self.new.failed ≡ true)) }

@@ -48,6 +48,7 @@ impl Heap {
     pub fn take_parts(&mut self) -> Parts
         requires alive { self.old.failed ≡ false }
         ensures parts { seen_parts result ≡ self.old }
+        ensures valid { IsValid (seen_parts result) }
         ensures failed { self.new.failed ≡ true }
     {
         let alloc = *self.registers.allocator();

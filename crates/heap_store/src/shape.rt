@@ -4,7 +4,7 @@ ghost use Rattle.std.specs.Prelude.{◌≡◌, ℕ, ◌+◌, ◌/◌, ◌<◌, �
 ghost use Rattle.std.specs.FinMap.{get};
 ghost use Rattle.segment.specs.Segments.{Start};
 ghost use Rattle.segment.specs.Layout.{words_after, HasLength};
-ghost use Rattle.heap_store.specs.Changes.{HasYoung, IsMade, IsRewritten, new_start, filled};
+ghost use Rattle.heap_store.specs.Changes.{HasYoung, MakesStart, HasFilled, new_start};
 ghost use Rattle.heap_store.specs.Shapes.{packed, packed_word, start_of, HasSize};
 
 use gc_words::Address;
@@ -35,7 +35,7 @@ pub(crate) fn make_object(
 ) -> Result<Address, AllocError>
     requires sized { HasSize shape }
     requires born { 0 < line }
-    ensures { IfOk result (λ a. IsMade territory.old territory.new a (start_of line shape)) }
+    ensures { MakesStart territory.old territory.new (start_of line shape) result }
 {
     match shape {
         Shape::Two {
@@ -57,7 +57,7 @@ fn make_two(
 ) -> Result<Address, AllocError>
     requires sized { HasLength kind 2 × (words_after kind 2 ≡ 2) }
     requires born { 0 < line }
-    ensures { IfOk result (λ a. IsMade territory.old territory.new a (new_start kind 2 line (first ∷ second ∷ []))) }
+    ensures { MakesStart territory.old territory.new (new_start kind 2 line (first ∷ second ∷ [])) result }
 {
     let at = territory.allocate(kind, 2, 0, line)?;
     territory.put(at, 0, first, NO_MARK);
@@ -74,7 +74,7 @@ fn make_filled(
 ) -> Result<Address, AllocError>
     requires sized { HasLength kind length × (words_after kind length ≡ length) }
     requires born { 0 < line }
-    ensures { IfOk result (λ a. IsMade territory.old territory.new a (new_start kind length line (replicate length word))) }
+    ensures { MakesStart territory.old territory.new (new_start kind length line (replicate length word)) result }
 {
     let at = territory.allocate(kind, length, 0, line)?;
     fill(territory, at, length, word);
@@ -90,7 +90,7 @@ fn make_packed(
 ) -> Result<Address, AllocError>
     requires sized { HasLength kind length × (words_after kind length ≡ (length + 7) / 8) }
     requires born { 0 < line }
-    ensures { IfOk result (λ a. IsMade territory.old territory.new a (new_start kind length line (packed byte length))) }
+    ensures { MakesStart territory.old territory.new (new_start kind length line (packed byte length)) result }
 {
     let at = territory.allocate(kind, length, 0, line)?;
     let whole = pack(byte, 8);
@@ -106,7 +106,7 @@ fn make_packed(
 /// Puts the word into the first `count` words of an object of generation 0.
 fn fill(territory: &mut Territory, at: Address, count: u32, word: u64)
     requires { HasYoung territory.old at count }
-    ensures { (x : Start) → get territory.old.starts at ≡ Some x → IsRewritten territory.old territory.new at x (filled count word x.words) }
+    ensures { HasFilled territory.old territory.new at count word }
 {
     for index in 0..count {
         territory.put(at, index, word, NO_MARK);

@@ -1,5 +1,5 @@
 -- Segments that are set aside, one list after the other.
-use Rattle.std.proofs.Common.{◌≡◌, ◌≢◌, ℕ, zero, suc, ◌+◌, ◌<◌, ◌≤◌, true, false, List, [], ◌∷◌, ◌++◌, length, get_or, set, take, Option, Some, None, refl, sym, ◌∙◌, ap, subst, arith, inl, inr}
+use Rattle.std.proofs.Common.{◌≡◌, ◌≢◌, ℕ, zero, suc, ◌+◌, ◌<◌, ◌≤◌, false, List, [], ◌∷◌, ◌++◌, length, get_or, set, take, Option, Some, None, refl, sym, ◌∙◌, ap, subst, arith, inl, inr}
 use Rattle.std.proofs.lemmas.Bool.{cases_eq, cases_lt}
 use Rattle.std.proofs.lemmas.List.{length-set, take_more, take_all, get_or_read}
 use Rattle.std.proofs.lemmas.Option.{slice_get_within, get_or_from_slice_get}
@@ -10,7 +10,7 @@ use Rattle.seg_chain.proofs.Laws.{is_index, contains_of}
 use Rattle.segment.specs.Segments.{Segment, is_free, set_aside, vacant}
 use Rattle.territory.specs.Pools.{numbered}
 use Rattle.territory.specs.Changes.{AreSetAside, AreInUse}
-use Rattle.territory.proofs.Numbers.{numbered-set_same, numbered-set_other, numbered_past}
+use Rattle.territory.proofs.Numbers.{numbered-set_same, numbered-set_other, used_within}
 use Rattle.territory.proofs.Listing.{last_in, is_last}
 use Rattle.territory.proofs.Growing.{in_at}
 
@@ -36,15 +36,8 @@ aside_none segments = record { same = refl; inside = λ n h. absurd (omega arith
 pub in_list : (segments : List Segment) (lists : List (List ℕ)) (list j n : ℕ) → AreInUse segments (chain_of lists list) → slice_get (chain_of lists list) j ≡ Some n → is_free (numbered segments n).role ≡ false
 in_list segments lists list j n u h = u n (in_at (chain_of lists list) j n h)
 
-used_in : (segments : List Segment) (n : ℕ) → is_free (numbered segments n).role ≡ false → n < length segments
-used_in segments n u =
-    elim (cases_lt n (length segments)) [
-      | inl b ↦ b
-      | inr far ↦ absurd (let c : true ≡ false = sym (ap (λ (q : Segment). is_free q.role) (numbered_past segments n far)) ∙ u in cc)
-    ]
-
 pub next_here : (old new : List Segment) (xs : List ℕ) (j n : ℕ) → AreSetAside old new (take j xs) → times n xs ≤ 1 → slice_get xs j ≡ Some n → is_free (numbered old n).role ≡ false → (n < length new) × (numbered new n ≡ numbered old n)
-next_here old new xs j n a once h u = (omega (arith, used_in old n u, a.same), a.outside n (taken_none xs j n once h))
+next_here old new xs j n a once h u = (omega (arith, used_within old n u, a.same), a.outside n (taken_none xs j n once h))
 
 pub aside_more : (old new : List Segment) (xs : List ℕ) (j n : ℕ) (q q' : Segment) → AreSetAside old new (take j xs) → times n xs ≤ 1 → slice_get xs j ≡ Some n → is_free (numbered old n).role ≡ false → q ≡ get_or new n q → q' ≡ set_aside q → AreSetAside old (set new n q') (take (j + 1) xs)
 aside_more old new xs j n q q' a once h u read is =

@@ -1,22 +1,14 @@
 -- The list of dirty segments, told of what contracts see.
-use Rattle.std.proofs.Common.{◌≡◌, ◌≢◌, ℕ, ◌<◌, ◌≤◌, true, false, cond, List, length, get_or, Contains, refl, sym, ap, subst, arith, inl, inr}
-use Rattle.std.proofs.lemmas.Bool.{cases_lt}
-use Rattle.seg_chain.specs.Lists.{chain_of, link_count, times, EachOnce}
-use Rattle.seg_chain.proofs.Counts.{times-le-all}
+use Rattle.std.proofs.Common.{◌≡◌, ◌≢◌, ℕ, ◌<◌, true, false, cond, length, get_or, Contains, refl, sym, ap, subst, arith}
+use Rattle.seg_chain.specs.Lists.{chain_of, link_count}
 use Rattle.seg_chain.proofs.Laws.{contains_of, times_of, is_index}
 use Rattle.segment.specs.Segments.{Segment, IsSound, is_free}
 use Rattle.segment.specs.declared.segment.Role.TheVariants.{Free, Current, From}
 use Rattle.territory.specs.declared.territory.Targets.{Targets}
 use Rattle.territory.specs.Territories.{TerritoryView, HasMark, AreDirtyOnes}
 use Rattle.territory.specs.Pools.{PoolView, IsSettled, numbered, seen, shows_dirty, territory_view}
+use Rattle.territory.proofs.Asides.{once_in}
 use Rattle.territory.proofs.Numbers.{seen_at}
-
-once_in : (lists : List (List ℕ)) (c n : ℕ) → EachOnce lists → c < length lists → times n (chain_of lists c) ≤ 1
-once_in lists c n e k =
-    elim (cases_lt n (link_count lists)) [
-      | inl b ↦ omega (arith, e.once n b, times-le-all n lists c k)
-      | inr b ↦ omega (arith, e.no_other n b, times-le-all n lists c k)
-    ]
 
 seen_mark : (p : Segment) → IsSound p → shows_dirty p ≡ true → HasMark (seen p)
 seen_mark p s e = elim p.role as (λ r. cond (is_free r) false p.is_dirty ≡ true → HasMark (seen (record p { role = r }))) [ Free ↦ λ h. cc | Current ↦ λ h. s.dirty h | From ↦ λ h. s.dirty h ] e

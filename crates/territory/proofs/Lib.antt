@@ -22,3 +22,4 @@ pub mod Asides
 pub mod Beginning
 pub mod Begun
 pub mod BegunTerritory
+pub mod Fromward

@@ -50,13 +50,13 @@ once_of lists g n e l small =
     let most : times_all n lists ≤ 1 = elim (cases_lt n (link_count lists)) [ inl b ↦ omega (arith, e.once n b) | inr b ↦ omega (arith, e.no_other n b) ] in
     omega (arith, times-append n (chain_of lists (1 + g)) (chain_of lists (10 + g)))
 
-some_there : (xs : List ℕ) (k : ℕ) → k < length xs → None ≡ slice_get xs k → ⊥
+pub some_there : (xs : List ℕ) (k : ℕ) → k < length xs → None ≡ slice_get xs k → ⊥
 some_there [] k h e = absurd (omega arith)
 some_there (x ∷ xs) zero h e = cc
 some_there (x ∷ xs) (suc k) h e = some_there xs k (omega arith) e
 
 -- where a number stands in the list of its segment
-placed_at : (segments : List Segment) (lists : List (List ℕ)) (n : ℕ) → AreListed segments lists → (list_of (numbered segments n) ≡ 0 → ⊥) → (k : ℕ) × (slice_get (chain_of lists (list_of (numbered segments n))) k ≡ Some n)
+pub placed_at : (segments : List Segment) (lists : List (List ℕ)) (n : ℕ) → AreListed segments lists → (list_of (numbered segments n) ≡ 0 → ⊥) → (k : ℕ) × (slice_get (chain_of lists (list_of (numbered segments n))) k ≡ Some n)
 placed_at segments lists n l used =
     let c : Contains (chain_of lists (list_of (numbered segments n))) n = contains_of n (chain_of lists (list_of (numbered segments n))) (listed_at segments lists n l (in_use_linked segments lists n l used)) in
     (c.0, slice_get_read (chain_of lists (list_of (numbered segments n))) (length (chain_of lists (list_of (numbered segments n)))) c.0 n refl c.1 (sym c.2))
@@ -97,7 +97,7 @@ next_current p n r t is next first =
     (first ∙ (sym (get_right cur fr 0) ∙ ap (slice_get (cur ++ fr)) e))
 
 -- ---- for the answers
-here_is : (p now : PoolView) (n : ℕ) (q : Segment) → p ≡ now → is_free (numbered now.segments n).role ≡ false → q ≡ get_or p.segments n q → q ≡ numbered p.segments n
+pub here_is : (p now : PoolView) (n : ℕ) (q : Segment) → p ≡ now → is_free (numbered now.segments n).role ≡ false → q ≡ get_or p.segments n q → q ≡ numbered p.segments n
 here_is p now n q e used read =
     let used' : is_free (numbered p.segments n).role ≡ false = subst (λ (v : PoolView). is_free (numbered v.segments n).role ≡ false) (sym e) used in
     get_or_read p.segments n q (elim (cases_lt n (length p.segments)) [

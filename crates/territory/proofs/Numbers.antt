@@ -1,10 +1,10 @@
 -- One segment of the list of segments changed, or a vacant one was added.
-use Rattle.std.proofs.Common.{◌≡◌, ◌≢◌, ℕ, zero, suc, ◌+◌, ◌<◌, ◌≤◌, List, [], ◌∷◌, ◌++◌, length, get_or, set, map, Some, None, sym, ◌∙◌, ap, subst, arith, inl, inr, get_or-set_same, get_or-set_other}
+use Rattle.std.proofs.Common.{true, false, ◌≡◌, ◌≢◌, ℕ, zero, suc, ◌+◌, ◌<◌, ◌≤◌, List, [], ◌∷◌, ◌++◌, length, get_or, set, map, Some, None, sym, ◌∙◌, ap, subst, arith, inl, inr, get_or-set_same, get_or-set_other}
 use Rattle.std.proofs.lemmas.List.{get_or_past, get_or_append_left, get_or_push, length_push, length-map, get_or-map, set_past}
 use Rattle.std.proofs.lemmas.List.Sums.{sum_by-cons}
 use Rattle.std.proofs.lemmas.Bool.{cases_eq, cases_lt}
 use Rattle.std.specs.List.{sum_by}
-use Rattle.segment.specs.Segments.{vacant, Segment, Start, spot}
+use Rattle.segment.specs.Segments.{is_free, vacant, Segment, Start, spot}
 use Rattle.segment.specs.Layout.{HasLength}
 use Rattle.territory.specs.Pools.{numbered, seen}
 
@@ -73,4 +73,12 @@ seen_at segments n =
     elim (cases_lt n (length segments)) [
       | inl b ↦ get_or-map seen segments n vacant None b
       | inr far ↦ get_or_past (map seen segments) n None (omega (arith, length-map segments seen)) ∙ sym (ap seen (numbered_past segments n far))
+    ]
+
+-- what is in use has a segment
+pub used_within : (segments : List Segment) (n : ℕ) → is_free (numbered segments n).role ≡ false → n < length segments
+used_within segments n u =
+    elim (cases_lt n (length segments)) [
+      | inl b ↦ b
+      | inr far ↦ absurd (let c : true ≡ false = sym (ap (λ (q : Segment). is_free q.role) (numbered_past segments n far)) ∙ u in cc)
     ]

@@ -17,7 +17,7 @@ use Rattle.segment.proofs.Spots.{in_words, spot_put, spot_put_other, spot_start}
 use Rattle.segment.proofs.Calls.{card_seen}
 use Rattle.territory.specs.Territories.{needs_mark, with_dirty}
 use Rattle.territory.specs.Pools.{PoolView, numbered, IsSettled, AreDirty, is_from_role, shows_dirty, noted, dirty_after}
-use Rattle.territory.proofs.Numbers.{numbered_past, each_set, spot_set}
+use Rattle.territory.proofs.Numbers.{each_set, spot_set, used_within}
 use Rattle.territory.proofs.Listing.{listed_same}
 use Rattle.territory.proofs.Dirtying.{dirty_same, dirty_marked, clean_in}
 use Rattle.territory.proofs.Opening.{open_changed}
@@ -26,11 +26,7 @@ use Rattle.territory.proofs.Grown.{used_same}
 
 -- where something starts there is a segment
 pub start_within : (segments : List Segment) (n k : ℕ) → IsStart (numbered segments n) k → n < length segments
-start_within segments n k s =
-    elim (cases_lt n (length segments)) [
-      | inl b ↦ b
-      | inr far ↦ absurd (let c : true ≡ false = sym (ap (λ (p : Segment). is_free p.role) (numbered_past segments n far)) ∙ s.0 in cc)
-    ]
+start_within segments n k s = used_within segments n s.0
 
 pub seen_within : (p now : PoolView) (n k : ℕ) → p ≡ now → IsStart (numbered now.segments n) k → n < length p.segments
 seen_within p now n k e s = subst (λ (v : PoolView). n < length v.segments) (sym e) (start_within now.segments n k s)

@@ -154,7 +154,7 @@ flat_none : (f : ℕ → List ℕ) (ns : List ℕ) → slice_get ns 0 ≡ None �
 flat_none f [] h = refl
 flat_none f (m ∷ ns) h = cc
 
-flat_cut : (f : ℕ → List ℕ) (ns : List ℕ) (i n : ℕ) → slice_get ns i ≡ Some n → (front : List ℕ) × (flat_map f ns ≡ front ++ (f n ++ flat_map f (drop (i + 1) ns)))
+pub flat_cut : (f : ℕ → List ℕ) (ns : List ℕ) (i n : ℕ) → slice_get ns i ≡ Some n → (front : List ℕ) × (flat_map f ns ≡ front ++ (f n ++ flat_map f (drop (i + 1) ns)))
 flat_cut f [] i n h = cc
 flat_cut f (m ∷ ns) zero n h =
     let same : m ≡ n = same_Some _ _ h in
@@ -236,7 +236,7 @@ in_other thread p targets n a s ne =
       | inr far ↦ past_none thread p n a far
     ])
 
-times_flat : (f : ℕ → List ℕ) (ns : List ℕ) (a n0 : ℕ) → ((n : ℕ) → times a (f n) ≤ 1) → ((n : ℕ) → n0 ≢ n → times a (f n) ≡ 0) → times a (flat_map f ns) ≤ times n0 ns
+pub times_flat : (f : ℕ → List ℕ) (ns : List ℕ) (a n0 : ℕ) → ((n : ℕ) → times a (f n) ≤ 1) → ((n : ℕ) → n0 ≢ n → times a (f n) ≡ 0) → times a (flat_map f ns) ≤ times n0 ns
 times_flat f [] a n0 once other = omega arith
 times_flat f (m ∷ ns) a n0 once other =
     let later : times a (flat_map f ns) ≤ times n0 ns = times_flat f ns a n0 once other in
@@ -245,7 +245,7 @@ times_flat f (m ∷ ns) a n0 once other =
       | inr ne ↦ omega (arith, times-append a (f m) (flat_map f ns), other m ne)
     ]
 
-times_flat_in : (f : ℕ → List ℕ) (ns : List ℕ) (a : ℕ) → 0 < times a (flat_map f ns) → (n : ℕ) × (0 < times n ns) × (0 < times a (f n))
+pub times_flat_in : (f : ℕ → List ℕ) (ns : List ℕ) (a : ℕ) → 0 < times a (flat_map f ns) → (n : ℕ) × (0 < times n ns) × (0 < times a (f n))
 times_flat_in f [] a h = absurd (omega arith)
 times_flat_in f (m ∷ ns) a h =
     elim (cases_lt 0 (times a (f m))) [
@@ -356,13 +356,6 @@ some_used q u = elim q.role as (λ r. is_free r ≡ false → IsSome (seen (reco
 
 pub segment_used : (thread : ℕ) (p : PoolView) (targets : Targets) (now : TerritoryView) (n : ℕ) → territory_view thread p targets ≡ now → IsSome (segment_at now n) → is_free (numbered p.segments n).role ≡ false
 segment_used thread p targets now n e h = used_some (numbered p.segments n) (subst IsSome (seen_at p.segments n) (subst (λ v. IsSome (segment_at v n)) (sym e) h))
-
-pub used_within : (segments : List Segment) (n : ℕ) → is_free (numbered segments n).role ≡ false → n < length segments
-used_within segments n u =
-    elim (cases_lt n (length segments)) [
-      | inl b ↦ b
-      | inr far ↦ absurd (let c : true ≡ false = sym (ap (λ (q : Segment). is_free q.role) (numbered_past segments n far)) ∙ u in cc)
-    ]
 
 -- the first start of a segment
 pub first_some : (thread : ℕ) (p : PoolView) (targets : Targets) (now : TerritoryView) (n k a : ℕ) (q : Segment) → territory_view thread p targets ≡ now → IsSettled p → q ≡ numbered p.segments n → IsStart q k → NoneWithin (IsStart q) 0 k → a ≡ address_of now.thread n (2 * k)

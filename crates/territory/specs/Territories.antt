@@ -1,5 +1,5 @@
 -- What contracts see of a territory.
-use Rattle.std.specs.Prelude.{◌≡◌, ◌≢◌, ℕ, ◌+◌, ◌*◌, ◌/◌, ◌<◌, ◌≤◌, ◌==◌, Bool, true, false, if◌then◌else◌, nat_lt, nat_le, List, [], ◌∷◌, length, map, is_some, min, replicate, slice_get, slice_index, slice_index_or, slice_set, ◌++◌, ◌⊎◌, Option, Some, None, option_map, IsSome, IsNone, IfSome, Contains, ◌&&◌, refl}
+use Rattle.std.specs.Prelude.{◌≡◌, ◌≢◌, ℕ, ◌+◌, ◌-◌, ◌*◌, ◌/◌, ◌<◌, ◌≤◌, ◌==◌, Bool, true, false, if◌then◌else◌, nat_lt, nat_le, List, [], ◌∷◌, length, map, is_some, min, replicate, slice_get, slice_index, slice_index_or, slice_set, ◌++◌, ◌⊎◌, Option, Some, None, option_map, IsSome, IsNone, IfSome, Contains, ◌&&◌, refl}
 use Rattle.std.specs.List.{list_any, filter, flat_map, range_with_len}
 use Rattle.std.specs.Ordering.{nat_cmp}
 use Rattle.std.specs.FinMap.{FinMap, code, get, insert, empty}
@@ -320,6 +320,25 @@ pub record AreListsBegun (old new : List (List ℕ)) (cg : ℕ) : Type 0 where
   pub from : (g : ℕ) → g < 9
       → chain_of new (10 + g)
       ≡ (if nat_le g cg then chain_of old (10 + g) ++ chain_of old (1 + g) else chain_of old (10 + g))
+
+-- the from-segments of the generations from g on
+unfoldable pub from_on : List (List ℕ) → ℕ → List ℕ
+from_on lists g = flat_map (λ h. chain_of lists (10 + h)) (range_with_len g (9 - g))
+
+-- the list of all from-segments
+abbrev pub from_list : List (List ℕ) → List ℕ
+from_list lists = from_on lists 0
+
+-- a from-segment
+abbrev pub IsFrom : Option SegmentView → Type 0
+IsFrom None = ⊥
+IsFrom (Some s) = s.is_from ≡ true
+
+-- the list has the from-segments, each once
+pub record AreFromOnes (t : TerritoryView) : Type 0 where
+  pub aside : (n : ℕ) → Contains (from_list t.lists) n → IsFrom (segment_at t n)
+  pub all : (n : ℕ) → IsFrom (segment_at t n) → Contains (from_list t.lists) n
+  pub once : (n : ℕ) → times n (from_list t.lists) ≤ 1
 
 abbrev pub no_territory : ℕ → TerritoryView
 no_territory thread = record {

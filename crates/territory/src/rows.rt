@@ -1,9 +1,9 @@
 //! Rows of a territory whose answers are known from outside.
 
-ghost use Rattle.std.specs.Prelude.{◌≤◌};
+ghost use Rattle.std.specs.Prelude.{◌<◌, ◌≤◌};
 
 use crate::counts::SegmentCounts;
-use crate::territory::Territory;
+use crate::territory::{Targets, Territory};
 use gc_words::Address;
 use std::alloc::{AllocError, Global};
 use std::test::Fail;
@@ -76,5 +76,61 @@ fn starts_are_shown(rt: HostRuntime) -> Result<(), Fail> {
     assert_eq!(rt; territory.first_start(1), None);
     assert_eq!(rt; territory.counts().cells, 1);
     assert_eq!(rt; territory.first_dirty(), None);
+    Ok(())
+}
+
+/// An object in each space.
+fn fill(territory: &mut Territory, generation: u8, birth: u32) -> Result<(), AllocError>
+    requires generation_in { generation ≤ 8 }
+    requires born { 0 < birth }
+{
+    territory.allocate(Kind::Pair, 2, generation, birth)?;
+    territory.allocate(Kind::Weak, 2, generation, birth)?;
+    territory.allocate(Kind::Eph, 2, generation, birth)?;
+    territory.allocate(Kind::Boxed, 1, generation, birth)?;
+    territory.allocate(Kind::Bytes, 5, generation, birth)?;
+    territory.allocate(Kind::ImmVector, 3, generation, birth)?;
+    territory.allocate(Kind::ImmBytes, 9, generation, birth)?;
+    territory.allocate(Kind::Cell, 2, generation, birth)?;
+    Ok(())
+}
+
+/// The counters of a territory with three generations after the generations up to `cg` were set aside, and
+/// the first from-segment.
+fn begun(alloc: Global, cg: u8) -> Result<(SegmentCounts, Option<u64>), AllocError>
+    requires { cg ≤ 7 }
+{
+    let mut territory = Territory::new(alloc, 1)?;
+    fill(&mut territory, 2, 1)?;
+    fill(&mut territory, 1, 2)?;
+    fill(&mut territory, 0, 3)?;
+    territory.begin(Targets {
+        cg,
+        min: cg,
+        max: cg + 1,
+    });
+    Ok((territory.counts(), territory.first_from()))
+}
+
+#[test]
+fn generations_are_set_aside(rt: HostRuntime) -> Result<(), Fail> {
+    let alloc = rt.alloc();
+    let counts = SegmentCounts {
+        segment_words: 12288,
+        open_areas: 16,
+        held_segments: 0,
+        cells: 3,
+    };
+    assert_eq!(rt; begun(alloc, 0)?, (counts, Some(16)));
+    let fewer = SegmentCounts {
+        open_areas: 8,
+        ..counts
+    };
+    assert_eq!(rt; begun(alloc, 1)?, (fewer, Some(16)));
+    let none = SegmentCounts {
+        open_areas: 0,
+        ..counts
+    };
+    assert_eq!(rt; begun(alloc, 2)?, (none, Some(16)));
     Ok(())
 }

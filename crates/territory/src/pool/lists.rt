@@ -1,9 +1,10 @@
 //! The lists of a pool.
 
-ghost use Rattle.std.specs.Prelude.{◌≡◌, ◌<◌, false, Contains, slice_get};
+ghost use Rattle.std.specs.Prelude.{◌≡◌, ◌<◌, ◌≤◌, false, Contains, slice_get};
 ghost use Rattle.seg_chain.specs.Lists.{chain_of};
+ghost use Rattle.segment.specs.declared.segment.Role.TheVariants.{From};
 ghost use Rattle.segment.specs.Segments.{is_free};
-ghost use Rattle.territory.specs.Territories.{IsNext, numbers_of};
+ghost use Rattle.territory.specs.Territories.{IsNext, from_list, from_on, numbers_of};
 ghost use Rattle.territory.specs.Pools.{IsSettled, numbered};
 
 use super::Pool;
@@ -55,5 +56,34 @@ impl Pool {
             Role::From => None,
             Role::Free | Role::Current => self.lists.first(10 + usize::from(segment.generation())),
         }
+    }
+
+    /// The first from-segment, of a generation at or after this one.
+    pub fn first_from(&self, generation: u8) -> Option<usize>
+        requires settled { IsSettled self.now }
+        requires generation_in { generation ≤ 9 }
+        ensures { result ≡ slice_get (from_on self.now.lists generation) 0 }
+    {
+        for later in generation..9 {
+            let first = self.lists.first(10 + usize::from(later));
+            if first.is_some() {
+                return first;
+            }
+        }
+        None
+    }
+
+    /// The from-segment after another.
+    pub fn next_from(&self, n: usize) -> Option<usize>
+        requires settled { IsSettled self.now }
+        requires aside { (numbered self.now.segments n).role ≡ From }
+        ensures { IsNext (from_list self.now.lists) n result }
+    {
+        let next = self.lists.next(n);
+        if next.is_some() {
+            return next;
+        }
+        let generation = self.segments[n].generation();
+        self.first_from(generation + 1)
     }
 }

@@ -1,7 +1,7 @@
 //! What a collection does with a territory.
 
-ghost use Rattle.std.specs.Prelude.{◌≡◌, ℕ, ◌%◌, ◌≤◌, nat_le, if◌then◌else◌, slice_index_or, option_map, Option, None};
-ghost use Rattle.territory.specs.Territories.{segment_at, when_begun, AreListsBegun, AreCardsSound};
+ghost use Rattle.std.specs.Prelude.{◌≡◌, ℕ, ◌%◌, ◌≤◌, nat_le, if◌then◌else◌, slice_get, slice_index_or, option_map, Option, None, IfSome};
+ghost use Rattle.territory.specs.Territories.{segment_at, from_list, when_begun, AreListsBegun, AreCardsSound, AreFromOnes, IsFrom, IsNext};
 
 use super::{Targets, Territory};
 
@@ -26,5 +26,40 @@ impl Territory {
     {
         self.pool.begin(targets.cg);
         self.targets = targets;
+    }
+
+    /// The first from-segment. None where there is none.
+    pub fn first_from(&self) -> Option<u64>
+        ensures first { result ≡ slice_get (from_list self.now.lists) 0 }
+        ensures all { AreFromOnes self.now }
+    {
+        let n = self.pool.first_from(0)?;
+        Some(n as u64)
+    }
+
+    /// The from-segment after another. None where it is the last.
+    pub fn next_from(&self, segment: u64) -> Option<u64>
+        requires { IsFrom (segment_at self.now segment) }
+        ensures next { IsNext (from_list self.now.lists) segment result }
+        ensures all { AreFromOnes self.now }
+    {
+        let n = self.pool.next_from(segment as usize)?;
+        Some(n as u64)
+    }
+
+    /// How many words a from-segment has.
+    pub fn from_words(&self, segment: u64) -> u32
+        requires { IsFrom (segment_at self.now segment) }
+        ensures { IfSome (segment_at self.now segment) (λ s. result ≡ s.words) }
+    {
+        self.pool.segment(segment as usize).words() as u32
+    }
+
+    /// The generation that a from-segment had.
+    pub fn from_generation(&self, segment: u64) -> u8
+        requires { IsFrom (segment_at self.now segment) }
+        ensures { IfSome (segment_at self.now segment) (λ s. result ≡ s.generation) }
+    {
+        self.pool.segment(segment as usize).generation()
     }
 }
