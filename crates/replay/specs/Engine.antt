@@ -1,5 +1,5 @@
 -- What an engine is seen as, and what its calls do.
-use Rattle.std.specs.Prelude.{◌≡◌, ℕ, List, ◌++◌, true, Result, Ok, Err}
+use Rattle.std.specs.Prelude.{◌≡◌, ℕ, List, ◌++◌, true, false, Result, Ok, Err}
 use Rattle.trace_types.specs.declared.command.Command.{Command}
 use Rattle.trace_types.specs.declared.limits.Limits.{Limits}
 use Rattle.trace_types.specs.States.{State}
@@ -26,6 +26,14 @@ Steps s n c (Err (IsFault f)) old new heap = (built_step s n c ≡ Err f) × Sta
 Steps s n c (Err NoMemory) old new heap =
     (heap.failed ≡ true) × ((p : State × List ℕ) × (front : List ℕ) × (built_step s n c ≡ Ok p) × IsFront front p.1 × (new ≡ old ++ front))
 Steps s n c (Err Failed) old new heap = ⊥
+
+-- What a command that prints a text and changes nothing leaves: the text behind what was there, or nothing of it and a
+-- heap that has failed. `Failed` comes exactly where the heap had failed.
+abbrev pub Prints : (State → List ℕ) → Result (Unit {0}) HeapError → HeapView → HeapView → List ℕ → List ℕ → Type 0
+Prints shown (Ok _) before after old new = (before.failed ≡ false) × (after ≡ before) × ((s : State) → Stands before s → new ≡ old ++ shown s)
+Prints shown (Err NoMemory) before after old new = (before.failed ≡ false) × (after.failed ≡ true) × (new ≡ old)
+Prints shown (Err Failed) before after old new = (before.failed ≡ true) × (after.failed ≡ true) × (new ≡ old)
+Prints shown (Err (IsFault f)) before after old new = ⊥
 
 -- what a line leaves of the heap that stood for s, and the text that it gives
 abbrev pub Turns : Limits → State → ℕ → List ℕ → Result (Unit {0}) HeapError → List ℕ → HeapView → Type 0

@@ -1,7 +1,6 @@
 // The engine: a heap and the commands that are performed on it.
-ghost use Rattle.std.specs.Prelude.{◌≡◌, ◌≢◌, ◌↔◌, ◌<◌, ◌≤◌, ◌++◌, true, Err, IfOk, OnOk, OnErr, IsTrue, if◌then◌else◌};
-ghost use Rattle.trace_types.specs.States.{State, opening, operand_value};
-ghost use Rattle.trace_types.specs.Printing.{print_text};
+ghost use Rattle.std.specs.Prelude.{◌≡◌, ◌≢◌, ◌↔◌, ◌<◌, ◌≤◌, true, Err, IfOk, OnOk, IsTrue, if◌then◌else◌};
+ghost use Rattle.trace_types.specs.States.{State, opening};
 ghost use Rattle.heap_store.specs.Stands.{Stands};
 ghost use Rattle.trace_types.specs.WellFormed.{operands_fit};
 ghost use Rattle.heap_store.specs.Starts.{Keeps};
@@ -11,13 +10,13 @@ ghost use Rattle.replay.specs.Built.{takes_no_memory};
 ghost use Rattle.replay.specs.Engine.{Steps};
 ghost use Rattle.replay.specs.Words.{IsInRange};
 
+use crate::printing::{print_census, print_generation, print_graph};
 use gc_io::Gate;
-use heap_print::print_value;
 use heap_store::{Heap, HeapError};
 use std::alloc::{AllocError, Global};
 use std::marker::Model;
 use std::thread::Threads;
-use trace_types::{Command, Fault, Limits, Operand};
+use trace_types::{Command, Fault, Limits};
 
 /// A heap and the commands that are performed on it, line by line.
 #[derive(Drop)]
@@ -104,6 +103,8 @@ impl Engine {
             Command::Mov { d, value } => self.heap.mov(*d, *value),
             Command::Version => self.heap.version_two(line),
             Command::Print { value } => print_graph(&mut self.heap, *value, text),
+            Command::Census => print_census(&mut self.heap, text),
+            Command::Gen { value } => print_generation(&mut self.heap, *value, text),
             _ => unbuilt(&self.heap),
         }
     }
@@ -117,24 +118,6 @@ fn unbuilt(heap: &Heap) -> Result<(), HeapError>
         Err(HeapError::Failed)
     } else {
         Err(HeapError::Fault(Fault::UnknownCommand))
-    }
-}
-
-// Appends the printed graph of the value. Refused, nothing was appended, and the heap has failed.
-fn print_graph(heap: &mut Heap, value: Operand, text: &mut Vec<u8>) -> Result<(), HeapError>
-    ensures text { OnOk result ((s : State) → Stands heap.old s → text.new.items ≡ text.old.items ++ print_text s.graph (operand_value s value)) }
-    ensures kept { OnOk result (heap.new ≡ heap.old) }
-    ensures refused { OnErr result ((heap.new ≡ record heap.old { failed = true }) × (text.new.items ≡ text.old.items)) }
-    ensures failed { (result ≡ Err HeapError.Failed) ↔ (heap.old.failed ≡ true) }
-    ensures no_fault { (f : Fault) → result ≢ Err (HeapError.Fault f) }
-{
-    let alloc = *text.allocator();
-    match print_value(alloc, heap, value, text) {
-        Ok(()) => Ok(()),
-        Err(error) => {
-            heap.fail();
-            Err(error)
-        }
     }
 }
 

@@ -12,6 +12,7 @@
 
 mod engine;
 mod lines;
+mod printing;
 mod put;
 mod report;
 mod top;
