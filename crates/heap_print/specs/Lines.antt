@@ -26,12 +26,14 @@ shown_text f numbers x cells =
 -- of what starts at a place: its number, kind, generation and thread
 abbrev pub head_text : List ℕ → ℕ → Kind → ℕ → List ℕ
 head_text numbers a kind generation =
-    value_text numbers (values.object (reference a)) ++ codes " " ++ kind_word kind ++ codes " g" ++ generation_word generation
+    value_text numbers (values.object (reference a)) ++ codes " " ++ kind_word kind
+    ++ codes " g" ++ generation_word generation
     ++ codes " t" ++ decimal (thread_of a)
 
 -- its line
 abbrev pub line_text : Starts → List ℕ → ℕ → Start → List ℕ → List ℕ
-line_text f numbers a x cells = head_text numbers a x.kind x.generation ++ shown_text f numbers x cells ++ 10 ∷ []
+line_text f numbers a x cells =
+    head_text numbers a x.kind x.generation ++ shown_text f numbers x cells ++ 10 ∷ []
 
 -- ---- the census
 

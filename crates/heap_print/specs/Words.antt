@@ -1,4 +1,4 @@
--- How a print over the heap names objects: by the words that refer to them, before these are replaced by births.
+-- How a print over the heap names objects: by the words that refer to them, before births replace these.
 use Rattle.std.specs.Prelude.{◌≡◌, ℕ, ◌+◌, ◌*◌, ◌/◌, List, [], map, fold, slice_index, Option, Some, None, IsTrue, if◌then◌else◌}
 use Rattle.gc_words.specs.declared.value.Value.{Value}
 use Rattle.gc_words.specs.declared.value.Value.TheVariants.{Fixnum, Nil, True, False, Bwp, Object}

@@ -76,7 +76,8 @@ pub(crate) fn push_fields(
     text: &mut Vec<u8>,
 ) -> Result<(), AllocError>
     requires { count ≡ length (words_at (get territory.now.starts at)) }
-    ensures { OnOk result (text.new.items ≡ text.old.items ++ flat_map (word_text numbers.now) (words_at (get territory.now.starts at))) }
+    ensures { OnOk result (text.new.items ≡ text.old.items
+        ++ flat_map (word_text numbers.now) (words_at (get territory.now.starts at))) }
 {
     for index in 0..count {
         push_spaced(text, numbers, territory.word(at, index))?;
@@ -92,7 +93,8 @@ pub(crate) fn push_bytes(
     text: &mut Vec<u8>,
 ) -> Result<(), AllocError>
     requires { (count + 7) / 8 ≤ length (words_at (get territory.now.starts at)) }
-    ensures { OnOk result (text.new.items ≡ text.old.items ++ flat_map spaced_byte (bytes_of (words_at (get territory.now.starts at)) count)) }
+    ensures { OnOk result (text.new.items ≡ text.old.items
+        ++ flat_map spaced_byte (bytes_of (words_at (get territory.now.starts at)) count)) }
 {
     for index in 0..count {
         let bytes = territory.word(at, index / 8).to_le_bytes();
@@ -138,7 +140,8 @@ pub(crate) fn queue_words(
     first: u64,
 ) -> Result<Vec<u64>, AllocError>
     requires { (cells : List ℕ) × IsChain (get territory.now.starts) first cells }
-    ensures { IfOk result (λ words. (cells : List ℕ) → IsChain (get territory.now.starts) first cells → words.items ≡ map (λ c. first_of (get territory.now.starts c)) cells) }
+    ensures { IfOk result (λ words. (cells : List ℕ) → IsChain (get territory.now.starts) first cells
+        → words.items ≡ map (λ c. first_of (get territory.now.starts c)) cells) }
 {
     let mut words = Vec::new(alloc);
     let mut next = first;

@@ -54,8 +54,10 @@ fn count_start(territory: &Territory, at: Address) -> Counted
 fn count_starts(territory: &Territory, generation: u8) -> Counted
     requires generation { generation < 9 }
     requires few { AreFew (get territory.now.starts) }
-    ensures objects { result.objects ≡ objects_among (get territory.now.starts) (starts_of_generation territory.now generation) }
-    ensures words { result.words ≡ words_among (get territory.now.starts) (starts_of_generation territory.now generation) }
+    ensures objects { result.objects ≡ objects_among (get territory.now.starts)
+        (starts_of_generation territory.now generation) }
+    ensures words { result.words ≡ words_among (get territory.now.starts)
+        (starts_of_generation territory.now generation) }
     ensures all { AreItsStarts territory.now generation (starts_of_generation territory.now generation) }
     ensures few { result.objects ≤ greatest_line }
     ensures small { result.words ≤ result.objects * 4294967304 }
@@ -81,8 +83,10 @@ fn count_starts(territory: &Territory, generation: u8) -> Counted
 fn count_generation(heap: &Heap, generation: u8) -> Counted
     requires alive { heap.now.failed ≡ false }
     requires generation { generation < 9 }
-    ensures objects { (s : State) → Stands heap.now s → result.objects ≡ length (of_generation generation s.graph) }
-    ensures words { (s : State) → Stands heap.now s → result.words ≡ words_of (of_generation generation s.graph) }
+    ensures objects { (s : State) → Stands heap.now s
+        → result.objects ≡ length (of_generation generation s.graph) }
+    ensures words { (s : State) → Stands heap.now s
+        → result.words ≡ words_of (of_generation generation s.graph) }
 {
     let mut objects = 0;
     let mut words = 0;
@@ -94,8 +98,8 @@ fn count_generation(heap: &Heap, generation: u8) -> Counted
     Counted { objects, words }
 }
 
-/// Counts the objects of each generation and the words that they take. Goes through all starts of the heap, and takes
-/// no memory. It answers `Failed` exactly where the heap had failed, and no other error.
+/// Counts the objects of each generation and the words that they take. Goes through all starts of the heap, and
+/// takes no memory. It answers `Failed` exactly where the heap had failed, and no other error.
 pub fn census(heap: &Heap) -> Result<Census, HeapError>
     ensures counts { IfOk result (λ counts. (s : State) → Stands heap.now s → counts ≡ census s.graph) }
     ensures failed { (result ≡ Err HeapError.Failed) ↔ (heap.now.failed ≡ true) }

@@ -15,8 +15,8 @@ pub(crate) struct Counted {
     pub(crate) words: u64,
 }
 
-/// How many objects each generation has and how many words they take: of the generations 0 to 7, and of the static
-/// one last. Queue cells are not counted.
+/// How many objects each generation has and how many words they take: of the generations 0 to 7, and of the
+/// static one last. Queue cells are not counted.
 #[derive(Drop)]
 pub struct Census {
     pub(crate) generations: [Counted; 9],
@@ -34,7 +34,8 @@ impl Model for Census {
 
 /// Appends the line of a generation, where it has objects.
 fn push_count(text: &mut Vec<u8>, generation: u8, counted: &Counted) -> Result<(), AllocError>
-    ensures { OnOk result (text.new.items ≡ text.old.items ++ count_line generation counted.now.objects counted.now.words) }
+    ensures { OnOk result (text.new.items ≡ text.old.items
+        ++ count_line generation counted.now.objects counted.now.words) }
 {
     if counted.objects == 0 {
         return Ok(());
@@ -48,8 +49,9 @@ fn push_count(text: &mut Vec<u8>, generation: u8, counted: &Counted) -> Result<(
     push_word(text, b"\n")
 }
 
-/// Appends a line for each generation with objects, in ascending order and the static one last: `g`, the generation,
-/// its objects and its words. Refused, a front of the lines may have been appended. The text is this project's own.
+/// Appends a line for each generation with objects, in ascending order and the static one last: `g`, the
+/// generation, its objects and its words. Takes memory; refused, a front of the lines may have been appended.
+/// The text is this project's own.
 pub fn census_text(census: &Census, text: &mut Vec<u8>) -> Result<(), AllocError>
     ensures { OnOk result (text.new.items ≡ text.old.items ++ census_lines 0 census.now) }
 {

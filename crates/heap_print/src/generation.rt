@@ -8,8 +8,8 @@ ghost use Rattle.trace_types.specs.Printing.{generation_text};
 use crate::text::{push_generation, push_word};
 use std::alloc::AllocError;
 
-/// Appends a line with the generation of an object, `s` for the static one, or with `none`, of an immediate. Takes
-/// memory; refused, a front of the line may have been appended. The text is this project's own.
+/// Appends a line with the generation of an object, `s` for the static one, or with `none`, of an immediate.
+/// Takes memory; refused, a front of the line may have been appended. The text is this project's own.
 pub fn generation_text(generation: Option<u8>, text: &mut Vec<u8>) -> Result<(), AllocError>
     ensures { OnOk result ((o : Option Object) → generation ≡ option_map (λ o. o.generation) o
         → text.new.items ≡ text.old.items ++ generation_text o) }

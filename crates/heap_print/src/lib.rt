@@ -1,11 +1,10 @@
 //! What is printed of a heap: the graph of a value, the census, and the generation of an object.
 //!
-//! Each text is a function of the state that the heap stands for (`trace_types::specs::Printing`), so it says nothing
-//! of places in memory. Inside, objects are named by the words that refer to them; two words name one object exactly
-//! where they are equal, since no two objects have one birth.
+//! Each text is a function of the state that the heap stands for, so it says nothing of places in memory. Inside,
+//! an object is named by the word that refers to it, and `Numbers` is the list of these words by number.
 //!
-//! `Census` is seen as nine pairs of a number of objects and a number of words, those of generations 0 to 7 and of the
-//! static one. Its invariant: there are nine. `Numbers`, of one print, is the list of the words by number.
+//! `Census` is seen as nine pairs, of a number of objects and a number of words: those of generations 0 to 7 and
+//! of the static one. Its invariant: there are nine.
 //!
 //! All calls that append text take memory, `print_value` for its numbers too; `census` takes none.
 #![tactic(auto)]

@@ -53,7 +53,9 @@ fn queue_of(alloc: Global, heap: &Heap, at: Address) -> Result<Vec<u64>, AllocEr
     requires alive { heap.now.failed ≡ false }
     requires there { IsTrue (is_object (starts_of heap.now at)) }
     requires guardian { IfSome (starts_of heap.now at) (λ x. IsTrue (is_guardian x.kind)) }
-    ensures { IfOk result (λ words. (x : Start) (cells : List ℕ) (queue : Queue) → starts_of heap.now at ≡ Some x → HasQueue (starts_of heap.now) at x cells queue → words.items ≡ shown_words (starts_of heap.now) x cells) }
+    ensures { IfOk result (λ words. (x : Start) (cells : List ℕ) (queue : Queue) → starts_of heap.now at ≡ Some x
+        → HasQueue (starts_of heap.now) at x cells queue
+        → words.items ≡ shown_words (starts_of heap.now) x cells) }
 {
     let territory = heap.territory(at.thread());
     let _kind = territory.kind(at);
@@ -70,7 +72,9 @@ pub(crate) fn number_object(
 ) -> Result<(), AllocError>
     requires alive { heap.now.failed ≡ false }
     requires there { IsTrue (is_object (starts_of heap.now at)) }
-    ensures { OnOk result ((x : Start) (cells : List ℕ) (queue : Queue) → starts_of heap.now at ≡ Some x → HasQueue (starts_of heap.now) at x cells queue → numbers.new ≡ with_words numbers.old (shown_words (starts_of heap.now) x cells)) }
+    ensures { OnOk result ((x : Start) (cells : List ℕ) (queue : Queue) → starts_of heap.now at ≡ Some x
+        → HasQueue (starts_of heap.now) at x cells queue
+        → numbers.new ≡ with_words numbers.old (shown_words (starts_of heap.now) x cells)) }
 {
     let territory = heap.territory(at.thread());
     match Contents::of(territory.kind(at)) {
@@ -90,7 +94,9 @@ fn push_contents(
 ) -> Result<(), AllocError>
     requires alive { heap.now.failed ≡ false }
     requires there { IsTrue (is_object (starts_of heap.now at)) }
-    ensures { OnOk result ((x : Start) (cells : List ℕ) (queue : Queue) → starts_of heap.now at ≡ Some x → HasQueue (starts_of heap.now) at x cells queue → text.new.items ≡ text.old.items ++ shown_text (starts_of heap.now) numbers.now x cells) }
+    ensures { OnOk result ((x : Start) (cells : List ℕ) (queue : Queue) → starts_of heap.now at ≡ Some x
+        → HasQueue (starts_of heap.now) at x cells queue
+        → text.new.items ≡ text.old.items ++ shown_text (starts_of heap.now) numbers.now x cells) }
 {
     let territory = heap.territory(at.thread());
     let length = territory.length(at);
@@ -109,7 +115,8 @@ fn push_head(
     text: &mut Vec<u8>,
 ) -> Result<(), AllocError>
     requires { IsSome (get territory.now.starts at) }
-    ensures { OnOk result (IfSome (get territory.now.starts at) (λ x. text.new.items ≡ text.old.items ++ head_text numbers.now at x.kind x.generation)) }
+    ensures { OnOk result (IfSome (get territory.now.starts at) (λ x.
+        text.new.items ≡ text.old.items ++ head_text numbers.now at x.kind x.generation)) }
 {
     let kind = territory.kind(at);
     let generation = territory.generation(at);
@@ -132,7 +139,9 @@ pub(crate) fn push_object(
 ) -> Result<(), AllocError>
     requires alive { heap.now.failed ≡ false }
     requires there { IsTrue (is_object (starts_of heap.now at)) }
-    ensures { OnOk result ((x : Start) (cells : List ℕ) (queue : Queue) → starts_of heap.now at ≡ Some x → HasQueue (starts_of heap.now) at x cells queue → text.new.items ≡ text.old.items ++ line_text (starts_of heap.now) numbers.now at x cells) }
+    ensures { OnOk result ((x : Start) (cells : List ℕ) (queue : Queue) → starts_of heap.now at ≡ Some x
+        → HasQueue (starts_of heap.now) at x cells queue
+        → text.new.items ≡ text.old.items ++ line_text (starts_of heap.now) numbers.now at x cells) }
 {
     push_head(heap.territory(at.thread()), at, numbers, text)?;
     push_contents(alloc, heap, at, numbers, text)?;

@@ -25,8 +25,10 @@ use trace_types::{Fault, Operand};
 
 /// The place of the object of a number. None where there is no such number.
 fn numbered(numbers: &Numbers, number: usize) -> Option<Address>
-    ensures none { IfNone result ((w a : ℕ) → slice_get numbers.now number ≡ Some w → value_of w ≢ Some (Value.Object a)) }
-    ensures some { IfSome result (λ a. (w : ℕ) × (slice_get numbers.now number ≡ Some w) × (value_of w ≡ Some (Value.Object a))) }
+    ensures none { IfNone result ((w a : ℕ) → slice_get numbers.now number ≡ Some w
+        → value_of w ≢ Some (Value.Object a)) }
+    ensures some { IfSome result (λ a. (w : ℕ) × (slice_get numbers.now number ≡ Some w)
+        × (value_of w ≡ Some (Value.Object a))) }
 {
     match numbers.object(number) {
         Some(word) => referred(word),
@@ -53,7 +55,8 @@ fn number_all(alloc: Global, heap: &Heap, value: &Value) -> Result<Numbers, Allo
     requires valid { IsValid heap.now }
     requires there { (a : ℕ) → value.now ≡ Value.Object a → IsTrue (is_object (starts_of heap.now a)) }
     ensures refer { IfOk result (λ numbers. AllByRecursion (IsReference (starts_of heap.now)) numbers) }
-    ensures numbers { IfOk result (λ numbers. (s : State) → Stands heap.now s → map (birth_at (starts_of heap.now)) numbers ≡ numbering s.graph (read (starts_of heap.now) value.now)) }
+    ensures numbers { IfOk result (λ numbers. (s : State) → Stands heap.now s
+        → map (birth_at (starts_of heap.now)) numbers ≡ numbering s.graph (read (starts_of heap.now) value.now)) }
     ensures address { (a : ℕ) → value.now ≡ Value.Object a → IsAddress a }
 {
     let mut numbers = Numbers::new(alloc);
@@ -79,7 +82,9 @@ fn push_objects(
     requires alive { heap.now.failed ≡ false }
     requires valid { IsValid heap.now }
     requires refer { AllByRecursion (IsReference (starts_of heap.now)) numbers.now }
-    ensures { OnOk result ((s : State) → Stands heap.now s → text.new.items ≡ text.old.items ++ flat_map (λ birth. object_line (map (birth_at (starts_of heap.now)) numbers.now) birth (object_at s.graph birth)) (map (birth_at (starts_of heap.now)) numbers.now)) }
+    ensures { OnOk result ((s : State) → Stands heap.now s
+        → let births = map (birth_at (starts_of heap.now)) numbers.now in text.new.items ≡ text.old.items
+        ++ flat_map (λ birth. object_line births birth (object_at s.graph birth)) births) }
 {
     for number in 0..numbers.count() {
         match numbered(numbers, number) {
@@ -100,7 +105,8 @@ fn push_graph(
     requires alive { heap.now.failed ≡ false }
     requires valid { IsValid heap.now }
     requires there { (a : ℕ) → value.now ≡ Value.Object a → IsTrue (is_object (starts_of heap.now a)) }
-    ensures { OnOk result ((s : State) → Stands heap.now s → text.new.items ≡ text.old.items ++ print_text s.graph (read (starts_of heap.now) value.now)) }
+    ensures { OnOk result ((s : State) → Stands heap.now s
+        → text.new.items ≡ text.old.items ++ print_text s.graph (read (starts_of heap.now) value.now)) }
 {
     let numbers = number_all(alloc, heap, value)?;
     push_word(text, b"= ")?;
@@ -110,13 +116,15 @@ fn push_graph(
     Ok(())
 }
 
-/// Appends the printed graph of a value: a line with the value, and a line for each object that is reached from it.
+/// Appends the printed graph of a value: a line with the value, and one for each object that is reached from it.
 ///
-/// Objects are numbered in the order of first visit, going through them by number and through each from left to right,
-/// weak fields and queues included. Takes memory for the numbers and the text; refused, nothing was appended, and the
-/// heap is as it was. It answers `Failed` exactly where the heap had failed. The text is this project's own.
+/// Objects are numbered in the order of first visit, going through them by number and through each from left to
+/// right, weak fields and queues included. The numbers and the text take memory from the text's allocator. Refused,
+/// nothing was appended, and the heap is as it was. It answers `Failed` exactly where the heap had failed. The text
+/// is this project's own.
 pub fn print_value(heap: &Heap, value: Operand, text: &mut Vec<u8>) -> Result<(), HeapError>
-    ensures text { OnOk result ((s : State) → Stands heap.now s → text.new.items ≡ text.old.items ++ print_text s.graph (operand_value s value)) }
+    ensures text { OnOk result ((s : State) → Stands heap.now s
+        → text.new.items ≡ text.old.items ++ print_text s.graph (operand_value s value)) }
     ensures refused { OnErr result (text.new.items ≡ text.old.items) }
     ensures failed { (result ≡ Err HeapError.Failed) ↔ (heap.now.failed ≡ true) }
     ensures no_fault { (f : Fault) → result ≢ Err (HeapError.Fault f) }
