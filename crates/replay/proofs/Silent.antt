@@ -1,5 +1,5 @@
 -- Which commands print nothing.
-use Rattle.std.proofs.Common.{◌≡◌, ℕ, suc, zero, ◌+◌, ◌-◌, ◌==◌, ◌&&◌, ◌||◌, not, cond, nat_lt, nat_le, Bool, true, false, List, [], ◌∷◌, Option, Some, None, Result, Ok, Err, IsTrue, refl}
+use Rattle.std.proofs.Common.{◌≡◌, ℕ, cond, Bool, true, false, List, [], Option, Some, None, Result, Ok, Err, IsTrue, refl}
 use Rattle.trace_types.specs.declared.fault.Fault.{Fault}
 use Rattle.trace_types.specs.declared.command.Command.{Command}
 use Rattle.trace_types.specs.declared.command.Command.TheVariants.{Thread, Cons, Weak, Eph, MakeBox, Vector, Bytes, ImmVector, ImmBytes, Guard, OrderedGuard, Reg, Take, Get, Set, Mov, Lock, Unlock, Note, Check, Collect, Print, Census, Gen, Version, TablePut, TableGet, TableDel, Path, Size}

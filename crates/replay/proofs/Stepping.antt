@@ -1,15 +1,15 @@
 -- What the commands leave of the engine, from what the calls of the heap leave.
-use Rattle.std.proofs.Common.{◌≡◌, ◌≢◌, ℕ, List, [], ◌++◌, true, false, Result, Ok, Err, OnOk, OnErr, IsTrue, cond, refl, sym, ◌∙◌, ap, subst, append-nil}
+use Rattle.std.proofs.Common.{◌≡◌, ◌≤◌, ℕ, List, [], ◌++◌, true, false, Result, Ok, Err, OnOk, ◌↔◌, IsTrue, cond, refl, sym, ◌∙◌, ap, subst, append-nil}
 use Rattle.trace_types.specs.declared.command.Command.{Command}
-use Rattle.trace_types.specs.declared.command.Command.TheVariants.{Print}
+use Rattle.trace_types.specs.declared.command.Command.TheVariants.{Print, Census, Gen}
 use Rattle.trace_types.specs.declared.fault.Fault.TheVariants.{UnknownCommand}
 use Rattle.territory.specs.Territories.{TerritoryView}
 use Rattle.heap_store.specs.Starts.{Keeps, lasting}
 use Rattle.heap_store.specs.Changes.{HaveSoundCards}
 use Rattle.trace_types.specs.declared.operand.Operand.{Operand}
-use Rattle.trace_types.specs.declared.fault.Fault.{Fault}
 use Rattle.trace_types.specs.States.{State, Answer, operand_value}
-use Rattle.trace_types.specs.Printing.{print_text}
+use Rattle.trace_types.specs.Values.{object_of_value}
+use Rattle.trace_types.specs.Printing.{print_text, census_text, generation_text}
 use Rattle.trace_types.specs.Steps.{step}
 use Rattle.heap_store.specs.HeapView.{HeapView, starts_of, starts_in}
 use Rattle.heap_store.specs.Stands.{Stands}
@@ -18,7 +18,7 @@ use Rattle.heap_store.specs.declared.error.HeapError.{HeapError}
 use Rattle.heap_store.specs.declared.error.HeapError.TheVariants.{Failed, NoMemory, Fault as IsFault}
 use Rattle.replay.specs.Built.{built_step, is_built}
 use Rattle.replay.proofs.Silent.{IsSilent, is_silent, silent}
-use Rattle.replay.specs.Engine.{Steps}
+use Rattle.replay.specs.Engine.{Steps, Prints}
 
 -- what an answer without text leaves
 obeys_steps : (s : State) (n : ℕ) (c : Command) (a : Answer) (r : Result (Unit {0}) HeapError) (text : List ℕ) (heap : HeapView) →
@@ -49,25 +49,61 @@ pub on_ok : (r : Result (Unit {0}) HeapError) (P : Type 0) → P → OnOk r P
 on_ok (Ok u) P p = p
 on_ok (Err e) P p = tt
 
--- a call that left the heap as it was left its cards
-pub cards_after : (r : Result (Unit {0}) HeapError) (old new : HeapView) → OnOk r (new ≡ old) → HaveSoundCards old.territories → OnOk r (HaveSoundCards new.territories)
-cards_after (Ok u) old new same sound = subst (λ (h : HeapView). HaveSoundCards h.territories) (sym same) sound
-cards_after (Err e) old new same sound = tt
+-- ---- commands that print and change nothing
 
-step_print : (s : State) (n : ℕ) (v : Operand) → built_step s n (Print v) ≡ Ok (s, print_text s.graph (operand_value s v))
+print_answer : (s : State) (n : ℕ) (v : Operand) → built_step s n (Print v) ≡ Ok (s, print_text s.graph (operand_value s v))
 unfolding step
-step_print s n v = refl
+print_answer s n v = refl
 
--- what a print leaves: the text is there, or all is as before but for a heap that has failed
+census_answer : (s : State) (n : ℕ) → built_step s n Census ≡ Ok (s, census_text s.graph)
+unfolding step
+census_answer s n = refl
+
+generation_answer : (s : State) (n : ℕ) (v : Operand) → built_step s n (Gen v) ≡ Ok (s, generation_text (object_of_value s.graph (operand_value s v)))
+unfolding step
+generation_answer s n v = refl
+
+-- what is there after a print
+prints_steps : (shown : State → List ℕ) (s : State) (n : ℕ) (c : Command) → built_step s n c ≡ Ok (s, shown s) →
+    (r : Result (Unit {0}) HeapError) (old new : List ℕ) (before after : HeapView) → Stands before s → Prints shown r before after old new → Steps s n c r old new after
+prints_steps shown s n c is (Ok u) old new before after stands prints =
+    ((s, shown s), is, subst (λ (h : HeapView). Stands h s) (sym prints.1) stands, prints.2 s stands)
+prints_steps shown s n c is (Err NoMemory) old new before after stands prints =
+    let p : State × List ℕ = (s, shown s) in (ap (λ (h : HeapView). h.failed) prints.1, (p, [], is, (p.1, refl), prints.2 ∙ sym (append-nil old)))
+prints_steps shown s n c is (Err Failed) old new before after stands prints =
+    let bad : true ≡ false = sym prints.0 ∙ stands.alive in absurd (cc)
+prints_steps shown s n c is (Err (IsFault f)) old new before after stands prints = absurd prints
+
 pub print_steps : (s : State) (n : ℕ) (v : Operand) (r : Result (Unit {0}) HeapError) (old new : List ℕ) (before after : HeapView) → Stands before s →
-    OnOk r ((t : State) → Stands before t → new ≡ old ++ print_text t.graph (operand_value t v)) → OnOk r (after ≡ before) →
-    OnErr r ((after ≡ record before { failed = true }) × (new ≡ old)) → (r ≡ Err Failed → before.failed ≡ true) →
-    ((f : Fault) → r ≢ Err (IsFault f)) → Steps s n (Print v) r old new after
-print_steps s n v (Ok u) old new before after stands text kept refused failed no_fault =
-    ((s, print_text s.graph (operand_value s v)), step_print s n v, subst (λ (h : HeapView). Stands h s) (sym kept) stands, text s stands)
-print_steps s n v (Err (IsFault f)) old new before after stands text kept refused failed no_fault = absurd (no_fault f refl)
-print_steps s n v (Err NoMemory) old new before after stands text kept refused failed no_fault =
-    let p : State × List ℕ = (s, print_text s.graph (operand_value s v)) in
-    (ap (λ (h : HeapView). h.failed) refused.0, (p, [], step_print s n v, (p.1, refl), refused.1 ∙ sym (append-nil old)))
-print_steps s n v (Err Failed) old new before after stands text kept refused failed no_fault =
-    let bad : true ≡ false = sym (failed refl) ∙ stands.alive in absurd (cc)
+    Prints (λ t. print_text t.graph (operand_value t v)) r before after old new → Steps s n (Print v) r old new after
+print_steps s n v = prints_steps (λ t. print_text t.graph (operand_value t v)) s n (Print v) (print_answer s n v)
+
+pub census_steps : (s : State) (n : ℕ) (r : Result (Unit {0}) HeapError) (old new : List ℕ) (before after : HeapView) → Stands before s →
+    Prints (λ t. census_text t.graph) r before after old new → Steps s n Census r old new after
+census_steps s n = prints_steps (λ t. census_text t.graph) s n Census (census_answer s n)
+
+pub generation_steps : (s : State) (n : ℕ) (v : Operand) (r : Result (Unit {0}) HeapError) (old new : List ℕ) (before after : HeapView) → Stands before s →
+    Prints (λ t. generation_text (object_of_value t.graph (operand_value t v))) r before after old new → Steps s n (Gen v) r old new after
+generation_steps s n v = prints_steps (λ t. generation_text (object_of_value t.graph (operand_value t v))) s n (Gen v) (generation_answer s n v)
+
+-- what else is known after a print
+module _ (shown : State → List ℕ) (before after : HeapView) (old new : List ℕ) where
+  pub prints_cards : (r : Result (Unit {0}) HeapError) → Prints shown r before after old new → HaveSoundCards before.territories → OnOk r (HaveSoundCards after.territories)
+  prints_cards (Ok u) prints sound = subst (λ (h : HeapView). HaveSoundCards h.territories) (sym prints.1) sound
+  prints_cards (Err e) prints sound = tt
+
+  pub prints_kept : (r : Result (Unit {0}) HeapError) → Prints shown r before after old new → OnOk r (Keeps (starts_of before) (starts_of after))
+  prints_kept (Ok u) prints = kept_same before after (ap (λ (h : HeapView). h.territories) prints.1)
+  prints_kept (Err e) prints = tt
+
+  pub prints_failed : (r : Result (Unit {0}) HeapError) → Prints shown r before after old new → (r ≡ Err Failed) ↔ (before.failed ≡ true)
+  prints_failed (Ok u) prints = ((λ e. cc), (λ e. let bad : true ≡ false = sym e ∙ prints.0 in cc))
+  prints_failed (Err NoMemory) prints = ((λ e. cc), (λ e. let bad : true ≡ false = sym e ∙ prints.0 in cc))
+  prints_failed (Err Failed) prints = ((λ e. prints.0), (λ e. refl))
+  prints_failed (Err (IsFault f)) prints = absurd prints
+
+  pub prints_last : (newest : ℕ) (r : Result (Unit {0}) HeapError) → Prints shown r before after old new → before.last ≤ newest → after.last ≤ newest
+  prints_last newest (Ok u) prints less = subst (λ (h : HeapView). h.last ≤ newest) (sym prints.1) less
+  prints_last newest (Err NoMemory) prints less = subst (λ (h : HeapView). h.last ≤ newest) (sym prints.1) less
+  prints_last newest (Err Failed) prints less = subst (λ (h : HeapView). h.last ≤ newest) (sym prints.1) less
+  prints_last newest (Err (IsFault f)) prints less = absurd prints

@@ -31,8 +31,8 @@ Steps s n c (Err Failed) old new heap = ⊥
 -- heap that has failed. `Failed` comes exactly where the heap had failed.
 abbrev pub Prints : (State → List ℕ) → Result (Unit {0}) HeapError → HeapView → HeapView → List ℕ → List ℕ → Type 0
 Prints shown (Ok _) before after old new = (before.failed ≡ false) × (after ≡ before) × ((s : State) → Stands before s → new ≡ old ++ shown s)
-Prints shown (Err NoMemory) before after old new = (before.failed ≡ false) × (after.failed ≡ true) × (new ≡ old)
-Prints shown (Err Failed) before after old new = (before.failed ≡ true) × (after.failed ≡ true) × (new ≡ old)
+Prints shown (Err NoMemory) before after old new = (before.failed ≡ false) × (after ≡ record before { failed = true }) × (new ≡ old)
+Prints shown (Err Failed) before after old new = (before.failed ≡ true) × (after ≡ record before { failed = true }) × (new ≡ old)
 Prints shown (Err (IsFault f)) before after old new = ⊥
 
 -- what a line leaves of the heap that stood for s, and the text that it gives

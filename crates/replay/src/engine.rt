@@ -28,7 +28,6 @@ pub struct Engine {
 impl Model for Engine {
     ghost use Rattle.std.specs.Prelude.{◌≤◌};
     ghost use Rattle.replay.specs.Engine.{EngineView};
-
     ghost use Rattle.std.specs.Coded.{codes};
     ghost use Rattle.territory.specs.Territories.{coded_territory};
 
@@ -126,7 +125,7 @@ mod tests {
     use super::*;
     use gc_io::OpenGate;
     use std::test::Fail;
-    use trace_types::Register;
+    use trace_types::{Operand, Register};
 
     #[test]
     fn performs_what_is_built(rt: HostRuntime) -> Result<(), Fail> {
@@ -148,8 +147,16 @@ mod tests {
             value: Operand::Reg(d),
         };
         assert_eq!(rt; engine.step(&rt, 3, &printed, &mut text, &OpenGate), Ok(()));
-        assert_eq!(rt; text.as_slice(), b"= #0\n#0 pair g0 t0 -1 f\n".as_slice());
-        let refused = engine.step(&rt, 4, &Command::Census, &mut text, &OpenGate);
+        assert_eq!(rt;
+            engine.step(&rt, 4, &Command::Census, &mut text, &OpenGate),
+            Ok(())
+        );
+        assert_eq!(rt;
+            text.as_slice(),
+            b"= #0\n#0 pair g0 t0 -1 f\ng0 1 2\n".as_slice()
+        );
+        let unbuilt = Command::Guard { d };
+        let refused = engine.step(&rt, 5, &unbuilt, &mut text, &OpenGate);
         assert_eq!(rt; refused, Err(HeapError::Fault(Fault::UnknownCommand)));
         assert!(rt; !engine.heap().failed());
         assert!(rt; !engine.into_heap().failed());

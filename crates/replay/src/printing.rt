@@ -52,6 +52,7 @@ pub(crate) fn print_graph(
 }
 
 /// The lines of the census.
+#[tactic(auto, unfolding(trace_types::specs::Printing::census_text))]
 fn census_lines(heap: &Heap, text: &Vec<u8>) -> Result<Vec<u8>, HeapError>
     ensures lines { IfOk result (λ lines. (s : State) → Stands heap.now s → lines.items ≡ printing.census_text s.graph) }
     ensures failed { (result ≡ Err HeapError.Failed) ↔ (heap.now.failed ≡ true) }

@@ -70,7 +70,7 @@ const PRINTS: &[u8] = b"print nil\nprint t\n";
 
 const BOTH: &[u8] = b"= nil\n= t\n";
 
-const REFUSED: &[u8] = b"cons r1 1 nil\nprint r1\nx\n";
+const REFUSED: &[u8] = b"cons r1 1 nil\nprint r1\nget r0 r1 5\n";
 
 const PAIR: &[u8] = b"= #0\n#0 pair g0 t0 1 nil\n";
 
@@ -89,7 +89,12 @@ fn replays(rt: HostRuntime) -> Result<(), Fail> {
             b"",
             0,
         ),
-        whole(REFUSED, PAIR, b"heapreplay: line 3: unknown command\n", 1),
+        whole(
+            REFUSED,
+            PAIR,
+            b"heapreplay: line 3: index out of range\n",
+            1,
+        ),
         Case {
             read_piece: 1,
             ..whole(PRINTS, BOTH, b"", 0)

@@ -1,7 +1,8 @@
 use Rattle.trace_types.specs.declared.command.Command.TheVariants.{Thread, Cons, MakeBox, Vector, Bytes, Get, Set, Mov, Version}
-use Rattle.replay.proofs.Stepping.{silent_steps, print_steps, cards_same, cards_after, on_ok}
+use Rattle.replay.proofs.Stepping.{silent_steps, print_steps, census_steps, generation_steps, prints_cards, prints_last, cards_same, on_ok}
 use Rattle.replay.proofs.engine.Engine.step.Goals as goal
-use Rattle.std.proofs.Common.{refl}
+use Rattle.std.proofs.Common.{refl, ap, arith}
+use Rattle.replay.specs.Engine.{EngineView}
 
 pub returns-in-Thread-clause-step : goal.returns-in-Thread-clause-step
 returns-in-Thread-clause-step g c = λ s stands.
@@ -73,8 +74,34 @@ pub returns-in-Print-clause-step : goal.returns-in-Print-clause-step
 returns-in-Print-clause-step g c = λ s stands.
     rw c.in-Print.is
     (print_steps s c.args.line c.in-Print.value c.print_graph.result c.args.text.now.items c.print_graph.new.text.items c.self.inside.heap c.print_graph.new.heap
-    (rw (← c.self.view_is) at stands) c.print_graph.ensures.text c.print_graph.ensures.kept c.print_graph.ensures.refused c.print_graph.ensures.failed.0
-    c.print_graph.ensures.no_fault)
+    (rw (← c.self.view_is) at stands) c.print_graph.ensures)
 
 pub returns-in-Print-clause-cards : goal.returns-in-Print-clause-cards
-returns-in-Print-clause-cards g c = λ sound. cards_after c.print_graph.result c.self.inside.heap c.print_graph.new.heap c.print_graph.ensures.kept (rw (← c.self.view_is) at sound)
+returns-in-Print-clause-cards g c = λ sound. prints_cards _ _ _ _ _ c.print_graph.result c.print_graph.ensures (rw (← c.self.view_is) at sound)
+
+pub returns-in-Census-clause-step : goal.returns-in-Census-clause-step
+returns-in-Census-clause-step g c = λ s stands.
+    rw c.in-Census.is
+    (census_steps s c.args.line c.print_census.result c.args.text.now.items c.print_census.new.text.items c.self.inside.heap c.print_census.new.heap
+    (rw (← c.self.view_is) at stands) c.print_census.ensures)
+
+pub returns-in-Census-clause-cards : goal.returns-in-Census-clause-cards
+returns-in-Census-clause-cards g c = λ sound. prints_cards _ _ _ _ _ c.print_census.result c.print_census.ensures (rw (← c.self.view_is) at sound)
+
+pub returns-in-Gen-clause-step : goal.returns-in-Gen-clause-step
+returns-in-Gen-clause-step g c = λ s stands.
+    rw c.in-Gen.is
+    (generation_steps s c.args.line c.in-Gen.value c.print_generation.result c.args.text.now.items c.print_generation.new.text.items c.self.inside.heap c.print_generation.new.heap
+    (rw (← c.self.view_is) at stands) c.print_generation.ensures)
+
+pub returns-in-Gen-clause-cards : goal.returns-in-Gen-clause-cards
+returns-in-Gen-clause-cards g c = λ sound. prints_cards _ _ _ _ _ c.print_generation.result c.print_generation.ensures (rw (← c.self.view_is) at sound)
+
+pub invariant_of-self-in-Print : goal.invariant_of-self-in-Print
+invariant_of-self-in-Print g c = prints_last _ _ _ _ _ c.args.line c.print_graph.result c.print_graph.ensures (omega (arith, c.self.invariant, c.requires.newer, ap (λ (e : EngineView). e.newest) c.self.view_is))
+
+pub invariant_of-self-in-Census : goal.invariant_of-self-in-Census
+invariant_of-self-in-Census g c = prints_last _ _ _ _ _ c.args.line c.print_census.result c.print_census.ensures (omega (arith, c.self.invariant, c.requires.newer, ap (λ (e : EngineView). e.newest) c.self.view_is))
+
+pub invariant_of-self-in-Gen : goal.invariant_of-self-in-Gen
+invariant_of-self-in-Gen g c = prints_last _ _ _ _ _ c.args.line c.print_generation.result c.print_generation.ensures (omega (arith, c.self.invariant, c.requires.newer, ap (λ (e : EngineView). e.newest) c.self.view_is))
