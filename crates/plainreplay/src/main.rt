@@ -19,6 +19,11 @@ use words::read_limits;
 /// What stands for words that are not UTF-8.
 const NOT_UTF8: &str = "not UTF-8";
 
+/// The usage line is heapreplay's too, though two of these words are all that this program takes.
+const USAGE: &str =
+    "heapreplay: usage: heapreplay [--sweepers N] [--generations G] [--max-lines N] \
+    [--workload NUMBER --count COUNT]\n";
+
 /// Why there is no run, or none that could be told.
 #[derive(Clone, Copy)]
 enum Failure {
@@ -31,7 +36,7 @@ enum Failure {
 impl Failure {
     fn message(self) -> &'static str {
         match self {
-            Failure::Usage => "plainreplay: usage: plainreplay [--generations G] [--max-lines N]\n",
+            Failure::Usage => USAGE,
             Failure::Read => "heapreplay: read fault\n",
             Failure::Write => "heapreplay: write fault\n",
             Failure::NoMemory => "heapreplay: out of memory\n",
