@@ -10,9 +10,8 @@ ghost use Rattle.segment.specs.Layout.{HasLength};
 
 use heap_store::{Heap, HeapError};
 use std::alloc::{AllocError, Global};
-use std::env;
-use std::io;
 use std::time::{CpuClock, Duration};
+use std::{env, io};
 use territory::Territory;
 use trace_types::{Kind, Operand, Register};
 
@@ -23,11 +22,7 @@ fn each(all: Duration) -> u128 {
     all.as_nanos() / u128::from(COUNT)
 }
 
-fn make_all(
-    territory: &mut Territory,
-    kind: Kind,
-    length: u32,
-) -> Result<(), AllocError>
+fn make_all(territory: &mut Territory, kind: Kind, length: u32) -> Result<(), AllocError>
     requires { HasLength kind length }
 {
     for line in 0..COUNT {
