@@ -6,8 +6,8 @@
 //! it collects. The scheme is Chez Scheme's (Dybvig, Eby and Bruggeman, "Don't Stop the BIBOP", 1994).
 //!
 //! For contracts a `CardTable` is a list of bytes, card by card; 255 is clean. It has no invariant beyond
-//! that. `new` alone takes memory. `next_dirty` passes clean cards eight at a time; the other calls read or
-//! write one byte.
+//! that. `new` alone takes memory. `next_dirty` passes clean cards eight at a time, and so do `raise` and
+//! `has_mark`, which go by it; the other calls read or write one byte.
 #![tactic(auto)]
 
 mod scan;

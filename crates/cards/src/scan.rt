@@ -1,7 +1,7 @@
 //! The search for a dirty card: the inner loop of a young collection.
 
 ghost use Rattle.std.specs.Prelude.{◌≡◌, ℕ, ◌+◌, ◌<◌, ◌≤◌, length, slice_index, slice_index_or, [], IsTrue, IfSome, IfNone};
-ghost use Rattle.cards.specs.Cards.{IsDirty, NoneDirty};
+ghost use Rattle.cards.specs.Cards.{IsDirty, NoneDirty, has_mark, raised_bytes};
 
 /// Whether these are eight clean cards: one comparison of 64 bits.
 fn are_clean(eight: [u8; 8]) -> bool
@@ -67,4 +67,23 @@ pub fn next_dirty_in(bytes: &[u8], from: usize, limit: u8) -> Option<usize>
         at = end;
     }
     None
+}
+
+/// Sets each dirty card to another byte, from one dirty card to the next.
+pub fn raise_in(bytes: &mut [u8], limit: u8, to: u8)
+    requires { limit < 255 }
+    ensures { bytes.new ≡ raised_bytes limit to bytes.old }
+{
+    let mut at = 0;
+    while let Some(card) = next_dirty_in(bytes, at, limit) {
+        bytes[card] = to;
+        at = card + 1;
+    }
+}
+
+/// Whether some card is not clean.
+pub fn has_mark_in(bytes: &[u8]) -> bool
+    ensures { result ≡ has_mark bytes.now }
+{
+    next_dirty_in(bytes, 0, 254).is_some()
 }

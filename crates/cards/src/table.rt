@@ -1,9 +1,9 @@
 //! The bytes of the cards of a segment.
 
 ghost use Rattle.std.specs.Prelude.{◌≡◌, ℕ, ◌<◌, ◌≤◌, length, min, replicate, slice_index, slice_set, IfOk, IfSome, IfNone};
-ghost use Rattle.cards.specs.Cards.{card_of, card_count, IsDirty, NoneDirty};
+ghost use Rattle.cards.specs.Cards.{card_of, card_count, IsDirty, NoneDirty, has_mark, raised_bytes};
 
-use crate::scan::next_dirty_in;
+use crate::scan::{has_mark_in, next_dirty_in, raise_in};
 use std::alloc::{AllocError, Global};
 use std::marker::Model;
 
@@ -75,6 +75,22 @@ impl CardTable {
         ensures none { IfNone result (NoneDirty self.now limit from (length self.now)) }
     {
         next_dirty_in(self.bytes.as_slice(), from, limit)
+    }
+
+    /// Sets each byte of at most `limit`, a generation, to `to`. Clean cards are passed as `next_dirty`
+    /// passes them.
+    pub fn raise(&mut self, limit: u8, to: u8)
+        requires { limit < CLEAN }
+        ensures { self.new ≡ raised_bytes limit to self.old }
+    {
+        raise_in(self.bytes.as_mut_slice(), limit, to);
+    }
+
+    /// Whether some card is not clean. Clean cards are passed as `next_dirty` passes them.
+    pub fn has_mark(&self) -> bool
+        ensures { result ≡ has_mark self.now }
+    {
+        has_mark_in(self.bytes.as_slice())
     }
 }
 

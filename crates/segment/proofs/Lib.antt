@@ -4,3 +4,6 @@ pub mod Spots
 pub mod Calls
 pub mod Collected
 pub mod Scans
+pub mod Copies
+pub mod Aging
+pub mod Tallies

@@ -70,7 +70,7 @@ start_in p k h bk =
 
 -- ---- the same spot in another segment
 
-object_same : (p q : Segment) (j : ℕ) → IsRead p q j → q.generation ≡ p.generation → get_or q.births j 0 ≡ get_or p.births j 0 → words_at q j ≡ words_at p j → object_at q j ≡ object_at p j
+pub object_same : (p q : Segment) (j : ℕ) → IsRead p q j → q.generation ≡ p.generation → get_or q.births j 0 ≡ get_or p.births j 0 → words_at q j ≡ words_at p j → object_at q j ≡ object_at p j
 object_same p q j r g b w = let k = r.kind in let l = r.length in cc
 
 pub spot_same : (p q : Segment) (j : ℕ) → is_free q.role ≡ is_free p.role → get_or q.births j 0 ≡ get_or p.births j 0 → (get_or p.births j 0 ≢ 0 → object_at q j ≡ object_at p j) → spot q j ≡ spot p j

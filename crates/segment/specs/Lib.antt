@@ -1,2 +1,4 @@
 pub mod Layout
 pub mod Segments
+pub mod Copies
+pub mod Aging

@@ -1,5 +1,6 @@
 -- What contracts see of a segment, and which objects start in it.
-use Rattle.std.specs.Prelude.{◌≡◌, ◌≢◌, ℕ, ◌+◌, ◌*◌, ◌/◌, ◌%◌, ◌<◌, ◌≤◌, ◌==◌, Bool, true, false, if◌then◌else◌, List, [], ◌∷◌, length, slice_index, slice_index_or, slice_set, take, drop, replicate, Option, Some, None, min}
+use Rattle.std.specs.Prelude.{◌≡◌, ◌≢◌, ℕ, ◌+◌, ◌*◌, ◌/◌, ◌%◌, ◌<◌, ◌≤◌, ◌==◌, Bool, true, false, not, if◌then◌else◌, List, [], ◌∷◌, length, slice_index, slice_index_or, slice_set, take, drop, replicate, Option, Some, None, min}
+use Rattle.std.specs.List.{count_by, list_any}
 use Rattle.gc_words.specs.declared.address.TheConstants.{OFFSETS}
 use Rattle.cards.specs.declared.table.TheConstants.{WORDS_PER_CARD}
 use Rattle.cards.specs.Cards.{card_of, card_count, IsDirty}
@@ -174,6 +175,14 @@ marked_at p word generation = record p {
   is_dirty = true;
   cards = slice_set p.cards (card_of word) (min (slice_index p.cards (card_of word)) generation);
 }
+
+-- how many births are not 0
+abbrev pub count_of_births : List ℕ → ℕ
+count_of_births births = count_by (λ birth. not (birth == 0)) births
+
+-- whether some start is held
+abbrev pub is_some_marked : List Bool → Bool
+is_some_marked marks = list_any (λ mark. mark) marks
 
 -- set aside for a collection
 abbrev pub set_aside : Segment → Segment

@@ -2,9 +2,11 @@
 
 ghost use Rattle.std.specs.Prelude.{◌≡◌, ◌≢◌, ◌+◌, ◌/◌, ◌*◌, ◌<◌, ◌≤◌, ◌↔◌, false, length, slice_index, IsTrue};
 ghost use Rattle.segment.specs.Layout.{size_of};
-ghost use Rattle.segment.specs.Segments.{IsStart, HasRoom, object_at, place_in, grown, put_in, marked_at};
+ghost use Rattle.segment.specs.Segments.{IsStart, HasRoom, count_of_births, is_some_marked, object_at, place_in, grown, put_in, marked_at};
 
+mod aging;
 mod collecting;
+mod copying;
 mod opening;
 mod scan;
 
@@ -40,13 +42,18 @@ pub struct Segment {
     words: Vec<u64>,
     /// For each two words the birth of what starts there, or 0.
     births: Vec<u32>,
+    /// How many of them are not 0.
+    starts: usize,
     cards: CardTable,
     /// For each two words whether the collection that goes on holds what starts there.
     marks: Vec<bool>,
+    /// Some start is held.
+    holds: bool,
 }
 
 impl Model for Segment {
-    ghost use Rattle.segment.specs.Segments.{Segment, IsSound};
+    ghost use Rattle.std.specs.Prelude.{◌≡◌};
+    ghost use Rattle.segment.specs.Segments.{Segment, IsSound, count_of_births, is_some_marked};
 
     ghost Value = { Segment };
 
@@ -74,7 +81,7 @@ impl Model for Segment {
       births = a.births.items;
       cards = a.cards;
       marks = a.marks.items;
-    }) };
+    }) × (a.starts ≡ count_of_births a.births.items) × (a.holds ≡ is_some_marked a.marks.items) };
 }
 
 impl Segment {
@@ -111,6 +118,20 @@ impl Segment {
         ensures { result ≡ self.now.is_dirty }
     {
         self.is_dirty
+    }
+
+    /// How many objects and cells start in it, or started there when it was given back.
+    pub fn starts(&self) -> usize
+        ensures { result ≡ count_of_births self.now.births }
+    {
+        self.starts
+    }
+
+    /// Whether the collection that goes on holds some start at its place here.
+    pub fn holds(&self) -> bool
+        ensures { result ≡ is_some_marked self.now.marks }
+    {
+        self.holds
     }
 
     /// How many words it has.
@@ -206,6 +227,7 @@ impl Segment {
         let at = self.top;
         self.words[at] = first;
         self.births[at / 2] = birth;
+        self.starts += usize::from(birth > 0);
         self.top = at + size;
         at
     }

@@ -60,7 +60,7 @@ pub record IsMade (old mid new : PoolView) (s : Space) (g first size birth n : �
   pub bare : skip_of s ≡ 0 → first ≡ 0
 
 -- before it, nothing started in the segment that did not start there already
-mid_spot : (old mid : PoolView) (s : Space) (g size n : ℕ) → IsRoom old mid s g size n → (m j : ℕ) → spot (numbered mid.segments m) j ≡ spot (numbered old.segments m) j
+pub mid_spot : (old mid : PoolView) (s : Space) (g size n : ℕ) → IsRoom old mid s g size n → (m j : ℕ) → spot (numbered mid.segments m) j ≡ spot (numbered old.segments m) j
 mid_spot old mid s g size n r m j =
     elim r.way [
       | inl w ↦ ap (λ (p : PoolView). spot (numbered p.segments m) j) w.same
@@ -72,7 +72,7 @@ mid_spot old mid s g size n r m j =
       ]
     ]
 
-used : (p : Segment) → p.role ≡ Current → is_free p.role ≡ false
+pub used : (p : Segment) → p.role ≡ Current → is_free p.role ≡ false
 used p e = ap is_free e
 
 made_here : (old mid new : PoolView) (s : Space) (g first size birth n : ℕ) → IsMade old mid new s g first size birth n → numbered new.segments n ≡ grown (numbered mid.segments n) first size birth
@@ -160,27 +160,27 @@ address_is a thread n o top is e = is ∙ ap (λ v. (thread * SEGMENTS + n) * OF
 seen_grown : (p : Segment) (first size birth : ℕ) → seen (grown p first size birth) ≡ seen p
 seen_grown p first size birth = ap (λ v. cond (is_free p.role) None (Some (let w : SegmentView = record { space = p.space; generation = p.generation; words = v; is_from = is_from_role p.role; was_held = p.was_held; cards = p.cards } in w))) (length-set p.words p.top first)
 
-seen_current : (p : Segment) → p.role ≡ Current → seen p ≡ Some (record { space = p.space; generation = p.generation; words = length p.words; is_from = false; was_held = p.was_held; cards = p.cards })
+pub seen_current : (p : Segment) → p.role ≡ Current → seen p ≡ Some (record { space = p.space; generation = p.generation; words = length p.words; is_from = false; was_held = p.was_held; cards = p.cards })
 seen_current p e = ap (λ r. seen (record p { role = r })) e
 
-seen_opened : (s : Space) (g words births : ℕ) → seen (opened s g words births) ≡ Some (fresh_segment s g words)
+pub seen_opened : (s : Space) (g words births : ℕ) → seen (opened s g words births) ≡ Some (fresh_segment s g words)
 seen_opened s g words births = ap (λ v. Some (let w : SegmentView = record { space = s; generation = g; words = v; is_from = false; was_held = false; cards = replicate (card_count words) 255 } in w)) (length-replicate {A = ℕ} words 0)
 
-seen_free : (p : Segment) → p.role ≡ Free → seen p ≡ None
+pub seen_free : (p : Segment) → p.role ≡ Free → seen p ≡ None
 seen_free p e = ap (λ r. seen (record p { role = r })) e
 
-none_some : (o : Option SegmentView) (v : SegmentView) → o ≡ Some v → IsNone o → ⊥
+pub none_some : (o : Option SegmentView) (v : SegmentView) → o ≡ Some v → IsNone o → ⊥
 none_some None v e h = cc
 none_some (Some w) v e h = cc
 
-some_none : (o : Option SegmentView) → o ≡ None → IsSome o → ⊥
+pub some_none : (o : Option SegmentView) → o ≡ None → IsSome o → ⊥
 some_none None e h = cc
 some_none (Some w) e h = cc
 
-mid_other : (old mid : PoolView) (s : Space) (g size n m : ℕ) → IsRoom old mid s g size n → m ≢ n → numbered mid.segments m ≡ numbered old.segments m
+pub mid_other : (old mid : PoolView) (s : Space) (g size n m : ℕ) → IsRoom old mid s g size n → m ≢ n → numbered mid.segments m ≡ numbered old.segments m
 mid_other old mid s g size n m r ne = elim r.way [ inl w ↦ ap (λ (p : PoolView). numbered p.segments m) w.same | inr o ↦ o.1.others m ne ]
 
-if_seen : (o : Option SegmentView) (p : Segment) (s : Space) (g : ℕ) → o ≡ Some (record { space = p.space; generation = p.generation; words = length p.words; is_from = false; was_held = p.was_held; cards = p.cards }) → p.space ≡ s → p.generation ≡ g
+pub if_seen : (o : Option SegmentView) (p : Segment) (s : Space) (g : ℕ) → o ≡ Some (record { space = p.space; generation = p.generation; words = length p.words; is_from = false; was_held = p.was_held; cards = p.cards }) → p.space ≡ s → p.generation ≡ g
     → IfSome o (λ v. (v.space ≡ s) × (v.generation ≡ g) × (v.is_from ≡ false))
 if_seen o p s g e a b = subst (λ w. IfSome w (λ v. (v.space ≡ s) × (v.generation ≡ g) × (v.is_from ≡ false))) (sym e) (a, b, refl)
 

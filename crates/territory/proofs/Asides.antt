@@ -22,12 +22,12 @@ once_in lists c n e k =
     ]
 
 -- the next of a list does not stand before it
-taken_none : (xs : List ℕ) (j n : ℕ) → times n xs ≤ 1 → slice_get xs j ≡ Some n → times n (take j xs) ≡ 0
+pub taken_none : (xs : List ℕ) (j n : ℕ) → times n xs ≤ 1 → slice_get xs j ≡ Some n → times n (take j xs) ≡ 0
 taken_none [] j n once h = cc
 taken_none (x ∷ xs) zero n once h = refl
 taken_none (x ∷ xs) (suc j) n once h = let ih : times n (take j xs) ≡ 0 = taken_none xs j n (omega arith) h in omega (arith, in_at xs j n h)
 
-take_next : (xs : List ℕ) (j n : ℕ) → slice_get xs j ≡ Some n → take (j + 1) xs ≡ take j xs ++ n ∷ []
+pub take_next : (xs : List ℕ) (j n : ℕ) → slice_get xs j ≡ Some n → take (j + 1) xs ≡ take j xs ++ n ∷ []
 take_next xs j n h = take_more xs j n (slice_get_within xs j n h) ∙ ap (λ v. take j xs ++ v ∷ []) (get_or_from_slice_get xs j n n h)
 
 pub aside_none : (segments : List Segment) → AreSetAside segments segments []
@@ -63,7 +63,7 @@ pub linked_at : (lists : List (List ℕ)) (list j n : ℕ) → EachOnce lists �
 linked_at lists list j n e k h = is_index lists n list e k (contains_of n (chain_of lists list) (in_at (chain_of lists list) j n h))
 
 -- the end of the list
-past : (xs : List ℕ) (j : ℕ) → slice_get xs j ≡ None → length xs ≤ j
+pub past : (xs : List ℕ) (j : ℕ) → slice_get xs j ≡ None → length xs ≤ j
 past [] j h = omega arith
 past (x ∷ xs) zero h = cc
 past (x ∷ xs) (suc j) h = omega (arith, past xs j h)

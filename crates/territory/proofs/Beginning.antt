@@ -43,7 +43,7 @@ listed_current Current h g a b e = (refl, omega arith)
 listed_current From h g a b e = absurd (omega arith)
 
 -- a sum in which each term stays
-sum_kept : (f : Segment → ℕ) (xs ys : List Segment) → length ys ≡ length xs → ((n : ℕ) → f (numbered ys n) ≡ f (numbered xs n)) → sum_by f ys ≡ sum_by f xs
+pub sum_kept : (f : Segment → ℕ) (xs ys : List Segment) → length ys ≡ length xs → ((n : ℕ) → f (numbered ys n) ≡ f (numbered xs n)) → sum_by f ys ≡ sum_by f xs
 sum_kept f [] [] l h = refl
 sum_kept f [] (y ∷ ys) l h = absurd (omega arith)
 sum_kept f (x ∷ xs) [] l h = absurd (omega arith)

@@ -83,7 +83,7 @@ ones-entries_in page p (suc n) es h =
     let ih : ones (from_entries rest) ≡ ones (from_entries es) + ones_in p n = ones-entries_in page p n es (λ k b. h k (omega arith)) in
     omega (arith, e, ones-entry a (spot p n) rest none, ih)
 
-none_left : {X : Type 0} (xs : List X) → length xs ≡ 0 → xs ≡ []
+pub none_left : {X : Type 0} (xs : List X) → length xs ≡ 0 → xs ≡ []
 none_left [] h = refl
 none_left (x ∷ xs) h = absurd (omega arith)
 

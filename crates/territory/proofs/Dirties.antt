@@ -13,7 +13,7 @@ use Rattle.territory.proofs.Numbers.{seen_at}
 seen_mark : (p : Segment) → IsSound p → shows_dirty p ≡ true → HasMark (seen p)
 seen_mark p s e = elim p.role as (λ r. cond (is_free r) false p.is_dirty ≡ true → HasMark (seen (record p { role = r }))) [ Free ↦ λ h. cc | Current ↦ λ h. s.dirty h | From ↦ λ h. s.dirty h ] e
 
-marked_dirty : (p : Segment) → IsSound p → is_free p.role ≡ false → (card : ℕ) × (card < length p.cards) × (get_or p.cards card 0 ≢ 255) → p.is_dirty ≡ true
+pub marked_dirty : (p : Segment) → IsSound p → is_free p.role ≡ false → (card : ℕ) × (card < length p.cards) × (get_or p.cards card 0 ≢ 255) → p.is_dirty ≡ true
 marked_dirty p s u m = elim p.is_dirty as (λ b. p.is_dirty ≡ b → b ≡ true) [ true ↦ λ e. refl | false ↦ λ e. absurd (m.2 (s.clean u e m.0 m.1)) ] refl
 
 mark_shown : (p : Segment) → IsSound p → HasMark (seen p) → shows_dirty p ≡ true

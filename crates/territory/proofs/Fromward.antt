@@ -168,13 +168,13 @@ from_seen p h = elim p.role as (λ r. IsFrom (seen (record p { role = r })) → 
 pub role_told : (thread : ℕ) (p : PoolView) (targets : Targets) (now : TerritoryView) (n : ℕ) → territory_view thread p targets ≡ now → IsFrom (segment_at now n) → (numbered p.segments n).role ≡ From
 role_told thread p targets now n e h = from_seen (numbered p.segments n) (subst IsFrom (seen_at p.segments n) (subst (λ v. IsFrom (segment_at v n)) (sym e) h))
 
-times_from : (p : PoolView) (n : ℕ) → IsSettled p → 0 < times n (from_list p.lists) → (numbered p.segments n).role ≡ From
+pub times_from : (p : PoolView) (n : ℕ) → IsSettled p → 0 < times n (from_list p.lists) → (numbered p.segments n).role ≡ From
 unfolding from_on
 times_from p n t i =
     let r : (h : ℕ) × (0 < times h (range_with_len 0 (9 - 0))) × (0 < times n (chain_of p.lists (10 + h))) = times_flat_in (λ h. chain_of p.lists (10 + h)) (range_with_len 0 (9 - 0)) n i in
     (in_from p r.0 n t r.2).0
 
-from_listed : (p : PoolView) (n : ℕ) → IsSettled p → (numbered p.segments n).role ≡ From → Contains (from_list p.lists) n
+pub from_listed : (p : PoolView) (n : ℕ) → IsSettled p → (numbered p.segments n).role ≡ From → Contains (from_list p.lists) n
 from_listed p n t is =
     let a : IsAside p n = aside_at p n t is in
     let fr : List ℕ = chain_of p.lists (10 + (numbered p.segments n).generation) in

@@ -67,7 +67,7 @@ settled_more p now lists n eq done i b' e k once =
 pub in_at : (xs : List ℕ) (k n : ℕ) → slice_get xs k ≡ Some n → 0 < times n xs
 in_at xs k n e = times_from_index xs n k (slice_get_within xs k n e) (get_or_from_slice_get xs k n n e)
 
-no_first : (xs : List ℕ) (o : Option ℕ) → o ≡ slice_get xs 0 → (o ≡ None) → xs ≡ []
+pub no_first : (xs : List ℕ) (o : Option ℕ) → o ≡ slice_get xs 0 → (o ≡ None) → xs ≡ []
 no_first [] o e f = refl
 no_first (x ∷ xs) o e f = absurd (let g : None ≡ Some x = sym f ∙ e in cc)
 

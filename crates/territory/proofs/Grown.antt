@@ -18,13 +18,13 @@ use Rattle.territory.proofs.Dirtying.{dirty_same}
 use Rattle.territory.proofs.Opening.{open_changed}
 use Rattle.territory.proofs.Counting.{counted_changed, sum_small}
 
-one_more : (births : List ℕ) (k birth : ℕ) → k < length births → get_or births k 0 ≡ 0 → 0 < birth → count_by (λ b. not (eqb b 0)) (set births k birth) ≡ count_by (λ b. not (eqb b 0)) births + 1
+pub one_more : (births : List ℕ) (k birth : ℕ) → k < length births → get_or births k 0 ≡ 0 → 0 < birth → count_by (λ b. not (eqb b 0)) (set births k birth) ≡ count_by (λ b. not (eqb b 0)) births + 1
 one_more births k birth b z pos =
     let e : ◌≡◌ {A = ℕ} (cond (not (eqb birth 0)) 1 0) 1 = (let t : eqb birth 0 ≡ false = grind (arith, nat_tests, pos) in ap (λ v. cond (not v) 1 0) t) in
     let f : ◌≡◌ {A = ℕ} (cond (not (eqb (get_or births k 0) 0)) 1 0) 0 = ap (λ v. cond (not (eqb v 0)) 1 0) z in
     omega (arith, sum_by-set (λ v. cond (not (eqb v 0)) 1 0) births k birth 0 b)
 
-cells_more : (free cell : Bool) (a b : ℕ) → free ≡ false → a ≡ b + 1 → cond free 0 (cond cell a 0) ≡ cond free 0 (cond cell b 0) + cond cell 1 0
+pub cells_more : (free cell : Bool) (a b : ℕ) → free ≡ false → a ≡ b + 1 → cond free 0 (cond cell a 0) ≡ cond free 0 (cond cell b 0) + cond cell 1 0
 cells_more true cell a b e f = absurd (let c : true ≡ false = e in cc)
 cells_more false true a b e f = f
 cells_more false false a b e f = refl
@@ -39,7 +39,7 @@ pub used_same : (free : Bool) (a b : ℕ) → a ≡ b → cond free 0 a ≡ cond
 used_same true a b e = refl
 used_same false a b e = omega arith
 
-cells_small : (p : Segment) → IsSound p → cells_in p ≤ OFFSETS
+pub cells_small : (p : Segment) → IsSound p → cells_in p ≤ OFFSETS
 cells_small p s =
     let c : count_by (λ b. not (eqb b 0)) p.births ≤ OFFSETS = omega (arith, count_by-le-length (λ b. not (eqb b 0)) p.births, s.births, s.small) in
     elim (is_free p.role) as (λ f. cond f 0 (cond (is_cell_space p.space) (count_by (λ b. not (eqb b 0)) p.births) 0) ≤ OFFSETS) [

@@ -1,6 +1,6 @@
 -- A pool puts a word into a start, and marks its card.
 use Rattle.std.proofs.Common.{◌≡◌, ℕ, ◌+◌, ◌<◌, Bool, true, false, cond, eqb, ◌&&◌, ◌||◌, List, [], ◌∷◌, ◌++◌, length, get_or, set, Some, Contains, IsTrue, refl, sym, ◌∙◌, ap, subst, arith, inl, inr}
-use Rattle.std.proofs.lemmas.List.{length-set, get_or_read, set-get_or}
+use Rattle.std.proofs.lemmas.List.{length-set, get_or_read, set-get_or, set-set}
 use Rattle.std.proofs.lemmas.Bool.{cases_eq, cases_lt}
 use Rattle.std.proofs.lemmas.Option.{same_Some}
 use Rattle.std.proofs.lemmas.Bool.Decides.{nat_tests}
@@ -17,7 +17,7 @@ use Rattle.segment.proofs.Spots.{in_words, spot_put, spot_put_other, spot_start}
 use Rattle.segment.proofs.Calls.{card_seen}
 use Rattle.territory.specs.Territories.{needs_mark, with_dirty}
 use Rattle.territory.specs.Pools.{PoolView, numbered, IsSettled, AreDirty, is_from_role, shows_dirty, noted, dirty_after}
-use Rattle.territory.proofs.Numbers.{each_set, spot_set, used_within}
+use Rattle.territory.proofs.Numbers.{numbered-set_same, each_set, spot_set, used_within}
 use Rattle.territory.proofs.Listing.{listed_same}
 use Rattle.territory.proofs.Dirtying.{dirty_same, dirty_marked, clean_in}
 use Rattle.territory.proofs.Opening.{open_changed}
@@ -83,12 +83,6 @@ settled_put p now n k index word q q' h is' =
       counted = counted_changed p.segments p.areas p.counts p.counts n g 0 0 t.counted h.within
           (used_same (is_free old.role) (length g.words) (length old.words) words) (ap (λ v. cond (is_free old.role) false (old.was_held && eqb v 512)) words) (omega arith) (omega arith) refl refl (omega arith);
     })
-
-pub put_is : (p now : PoolView) (n k index word : ℕ) (q q' : Segment) → p ≡ now → IsHere p now n k index q → q' ≡ put_in q k index word
-    → ◌≡◌ {A = PoolView} (record p { segments = set p.segments n q' }) (record now { segments = set now.segments n (put_in (numbered now.segments n) k index word) })
-put_is p now n k index word q q' e h is' =
-    ap (λ v. let u : PoolView = record p { segments = set p.segments n v } in u) (is' ∙ ap (λ v. put_in v k index word) h.is)
-    ∙ ap (λ (v : PoolView). let u : PoolView = record v { segments = set v.segments n (put_in (numbered v.segments n) k index word) } in u) e
 
 -- ---- a card marked
 any_yes : (n : ℕ) (xs : List ℕ) → 0 < times n xs → list_any (λ m. eqb n m) xs ≡ true
@@ -158,12 +152,10 @@ mark_small false g refers e small = let l : refers < g = grind (arith, nat_tests
 pub marked_small : (p now : PoolView) (n k index refers : ℕ) (q : Segment) → IsHere p now n k index q → needs_mark (is_from_role (numbered p.segments n).role) (numbered p.segments n).generation refers ≡ true → refers < 255
 marked_small p now n k index refers q h e = mark_small (is_from_role (numbered p.segments n).role) (numbered p.segments n).generation refers e (h.settled.generations n)
 
--- the segment that was read first tells whether a mark is needed
-pub need : (p now : PoolView) (n k index : ℕ) (q r : Segment) (b : Bool) (role : Role) (g refers : ℕ) → IsHere p now n k index q → r ≡ get_or p.segments n r → role ≡ r.role → g ≡ r.generation → b ≡ needs_mark (is_from_role role) g refers
+-- the segment tells whether a mark is needed
+pub need : (p now : PoolView) (n k index : ℕ) (q : Segment) (b : Bool) (role : Role) (g refers : ℕ) → IsHere p now n k index q → role ≡ q.role → g ≡ q.generation → b ≡ needs_mark (is_from_role role) g refers
     → needs_mark (is_from_role (numbered p.segments n).role) (numbered p.segments n).generation refers ≡ b
-need p now n k index q r b role g refers h read er eg e =
-    let is : r ≡ numbered p.segments n = get_or_read p.segments n r h.within read vacant in
-    needed (numbered p.segments n) b role g refers e (er ∙ ap (λ (v : Segment). v.role) is) (eg ∙ ap (λ (v : Segment). v.generation) is)
+need p now n k index q b role g refers h er eg e = needed (numbered p.segments n) b role g refers e (er ∙ ap (λ (v : Segment). v.role) h.is) (eg ∙ ap (λ (v : Segment). v.generation) h.is)
 
 pub not_noted : (p now : PoolView) (n k index refers : ℕ) → p ≡ now → n < length p.segments → needs_mark (is_from_role (numbered p.segments n).role) (numbered p.segments n).generation refers ≡ false
     → (now.segments ≡ set now.segments n (noted (numbered now.segments n) k index refers)) × (chain_of now.dirty 1 ≡ dirty_after (numbered now.segments n) (chain_of now.dirty 1) n refers)
@@ -202,9 +194,50 @@ pub dirty_if : (b d : Bool) → (IsTrue b → d ≡ false) × (d ≡ false → I
 dirty_if b true h e = refl
 dirty_if b false h e = absurd (let t : IsTrue b = h.1 refl in cc)
 
--- the same where nothing was read after it
-pub need_first : (p now : PoolView) (n k : ℕ) (r : Segment) (b : Bool) (role : Role) (g refers : ℕ) → p ≡ now → IsStart (numbered now.segments n) k → r ≡ get_or p.segments n r → role ≡ r.role → g ≡ r.generation → b ≡ needs_mark (is_from_role role) g refers
-    → needs_mark (is_from_role (numbered p.segments n).role) (numbered p.segments n).generation refers ≡ b
-need_first p now n k r b role g refers eq s read er eg e =
-    let is : r ≡ numbered p.segments n = get_or_read p.segments n r (seen_within p now n k eq s) read vacant in
-    needed (numbered p.segments n) b role g refers e (er ∙ ap (λ (v : Segment). v.role) is) (eg ∙ ap (λ (v : Segment). v.generation) is)
+-- ---- a word put, and then its card marked: `q` is the segment as it was read, `q'` as it is with the word
+abbrev pub with_put : PoolView → ℕ → Segment → PoolView
+with_put p n q' = record p { segments = set p.segments n q' }
+
+pub put_here : (p now : PoolView) (n k index word : ℕ) (q q' : Segment) → IsHere p now n k index q → q' ≡ put_in q k index word → IsHere (with_put p n q') (with_put p n q') n k index q'
+put_here p now n k index word q q' h is' =
+    let after : Some (object_at (put_in q k index word) k) ≡ Some (record (object_at q k) { words = set (words_at q k) index word }) = sym (spot_start (put_in q k index word) k h.starts) ∙ spot_put q k index word (object_at q k) (spot_start q k h.starts) in
+    let words : words_at (put_in q k index word) k ≡ set (words_at q k) index word = ap (λ (v : Start). v.words) (same_Some _ _ after) in
+    record {
+      settled = settled_put p now n k index word q q' h is';
+      within = omega (arith, h.within, length-set p.segments n q');
+      is = sym (numbered-set_same p.segments n q' h.within);
+      starts = subst (λ v. IsStart v k) (sym is') h.starts;
+      index_in = subst (λ v. index < length (words_at v k)) (sym is') (omega (arith, ap length words, length-set (words_at q k) index word, h.index_in));
+    }
+
+-- the segment with the word, as contracts see it
+put_now : (p now : PoolView) (n k index word : ℕ) (q q' : Segment) → p ≡ now → IsHere p now n k index q → q' ≡ put_in q k index word → numbered (with_put p n q').segments n ≡ put_in (numbered now.segments n) k index word
+put_now p now n k index word q q' e h is' = numbered-set_same p.segments n q' h.within ∙ (is' ∙ (ap (λ v. put_in v k index word) h.is ∙ ap (λ (v : PoolView). put_in (numbered v.segments n) k index word) e))
+
+pub segments_put : (p now : PoolView) (n k index word refers : ℕ) (q q' : Segment) (segments : List Segment) → p ≡ now → IsHere p now n k index q → q' ≡ put_in q k index word
+    → segments ≡ set (with_put p n q').segments n (noted (numbered (with_put p n q').segments n) k index refers) → segments ≡ set now.segments n (noted (put_in (numbered now.segments n) k index word) k index refers)
+segments_put p now n k index word refers q q' segments e h is' made =
+    made ∙ (ap (λ v. set (set p.segments n q') n (noted v k index refers)) (put_now p now n k index word q q' e h is')
+    ∙ (set-set p.segments n q' (noted (put_in (numbered now.segments n) k index word) k index refers)
+    ∙ ap (λ (v : PoolView). set v.segments n (noted (put_in (numbered now.segments n) k index word) k index refers)) e))
+
+pub dirty_put : (p now : PoolView) (n k index word refers : ℕ) (q q' : Segment) (dirty : List ℕ) → p ≡ now → IsHere p now n k index q → q' ≡ put_in q k index word
+    → dirty ≡ dirty_after (numbered (with_put p n q').segments n) (chain_of p.dirty 1) n refers → dirty ≡ dirty_after (put_in (numbered now.segments n) k index word) (chain_of now.dirty 1) n refers
+dirty_put p now n k index word refers q q' dirty e h is' made =
+    made ∙ (ap (λ v. dirty_after v (chain_of p.dirty 1) n refers) (put_now p now n k index word q q' e h is') ∙ ap (λ (v : PoolView). dirty_after (put_in (numbered now.segments n) k index word) (chain_of v.dirty 1) n refers) e)
+
+-- no mark is needed
+pub unmarked_put : (p now : PoolView) (n k index word refers : ℕ) (q q' : Segment) → p ≡ now → IsHere p now n k index q → q' ≡ put_in q k index word
+    → needs_mark (is_from_role (numbered (with_put p n q').segments n).role) (numbered (with_put p n q').segments n).generation refers ≡ false
+    → (set p.segments n q' ≡ set now.segments n (noted (put_in (numbered now.segments n) k index word) k index refers))
+    × (chain_of p.dirty 1 ≡ dirty_after (put_in (numbered now.segments n) k index word) (chain_of now.dirty 1) n refers)
+unmarked_put p now n k index word refers q q' e h is' unmarked =
+    let both = not_noted (with_put p n q') (with_put p n q') n k index refers refl (put_here p now n k index word q q' h is').within unmarked in
+    (segments_put p now n k index word refers q q' (set p.segments n q') e h is' both.0, dirty_put p now n k index word refers q q' (chain_of p.dirty 1) e h is' both.1)
+
+-- two changes of one segment are one
+pub marked_put : (p now : PoolView) (n k index word g : ℕ) (q q' q'' : Segment) → IsHere p now n k index q → q' ≡ put_in q k index word → g < 255 → q'' ≡ marked_at q' (place_in q' k index) g → (dirty : List (List ℕ))
+    → AreDirty (set (with_put p n q').segments n (marked_at (numbered (with_put p n q').segments n) (place_in (numbered (with_put p n q').segments n) k index) g)) dirty → IsSettled (record p { segments = set p.segments n q''; dirty = dirty })
+marked_put p now n k index word g q q' q'' h is' small is'' dirty d =
+    subst (λ v. IsSettled (record p { segments = v; dirty = dirty })) (set-set p.segments n q' q'')
+    (settled_marked (with_put p n q') (with_put p n q') n k index g q' q'' (put_here p now n k index word q q' h is') small is'' dirty d)

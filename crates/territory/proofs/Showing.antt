@@ -89,7 +89,7 @@ from_split thread n p from (suc count) k a b s =
     ]
 
 -- ---- what contracts say is this list
-address_is : (thread n o : ℕ) → address_of thread n o ≡ (thread * SEGMENTS + n) * OFFSETS + o
+pub address_is : (thread n o : ℕ) → address_of thread n o ≡ (thread * SEGMENTS + n) * OFFSETS + o
 unfolding address_of
 address_is thread n o = refl
 
@@ -109,10 +109,10 @@ filtered thread n p from (suc count) s b =
 pub places : PoolView → ℕ → ℕ
 places p n = words_in (seen (numbered p.segments n)) / 2
 
-words_small : (q : Segment) → IsSound q → words_in (seen q) ≤ OFFSETS
+pub words_small : (q : Segment) → IsSound q → words_in (seen q) ≤ OFFSETS
 words_small q s = elim q.role as (λ r. words_in (seen (record q { role = r })) ≤ OFFSETS) [ Free ↦ omega arith | Current ↦ s.small | From ↦ s.small ]
 
-words_used : (q : Segment) → is_free q.role ≡ false → words_in (seen q) ≡ length q.words
+pub words_used : (q : Segment) → is_free q.role ≡ false → words_in (seen q) ≡ length q.words
 words_used q u = elim q.role as (λ r. is_free r ≡ false → words_in (seen (record q { role = r })) ≡ length q.words) [ Free ↦ λ h. cc | Current ↦ λ h. refl | From ↦ λ h. refl ] u
 
 pub start_places : (p : PoolView) (n k : ℕ) → IsSettled p → IsStart (numbered p.segments n) k → k < places p n
@@ -144,13 +144,13 @@ split_told thread p targets n k s is =
     (r.0, starts_in_is thread p targets n s ∙ r.1)
 
 -- ---- lists of lists
-flat_first : (f : ℕ → List ℕ) (ns : List ℕ) (n a : ℕ) (rest : List ℕ) → slice_get ns 0 ≡ Some n → f n ≡ a ∷ rest → slice_get (flat_map f ns) 0 ≡ Some a
+pub flat_first : (f : ℕ → List ℕ) (ns : List ℕ) (n a : ℕ) (rest : List ℕ) → slice_get ns 0 ≡ Some n → f n ≡ a ∷ rest → slice_get (flat_map f ns) 0 ≡ Some a
 flat_first f [] n a rest h e = cc
 flat_first f (m ∷ ns) n a rest h e =
     let same : m ≡ n = same_Some _ _ h in
     ap (λ v. slice_get (v ++ flat_map f ns) 0) (ap f same ∙ e)
 
-flat_none : (f : ℕ → List ℕ) (ns : List ℕ) → slice_get ns 0 ≡ None → flat_map f ns ≡ []
+pub flat_none : (f : ℕ → List ℕ) (ns : List ℕ) → slice_get ns 0 ≡ None → flat_map f ns ≡ []
 flat_none f [] h = refl
 flat_none f (m ∷ ns) h = cc
 
@@ -168,7 +168,7 @@ flat_cut f (m ∷ ns) (suc i) n h =
     (f m ++ r.0, ap (λ v. f m ++ v) r.1 ∙ (sym (append_assoc (f m) r.0 (f n ++ flat_map f (drop (i + 1) ns))) ∙ ap (λ v. f m ++ r.0 ++ (f n ++ flat_map f v)) (sym d)))
 
 -- what comes after a in `front ++ a ∷ rest`
-next_cut : (xs front rest : List ℕ) (a : ℕ) (r : Option ℕ) → times a xs ≤ 1 → xs ≡ front ++ a ∷ rest → r ≡ slice_get rest 0 → IsNext xs a r
+pub next_cut : (xs front rest : List ℕ) (a : ℕ) (r : Option ℕ) → times a xs ≤ 1 → xs ≡ front ++ a ∷ rest → r ≡ slice_get rest 0 → IsNext xs a r
 next_cut xs front rest a r once e is =
     let z : length front ≡ length front + 0 = omega arith in
     let here : slice_get xs (length front) ≡ Some a = ap (λ v. slice_get v (length front)) e ∙ (ap (slice_get (front ++ a ∷ rest)) z ∙ get_right front (a ∷ rest) 0) in
@@ -176,7 +176,7 @@ next_cut xs front rest a r once e is =
     next_at xs a (length front) r once here (is ∙ sym after)
 
 -- ---- each start once
-segment_is : (thread n o a : ℕ) → n < SEGMENTS → o < OFFSETS → a ≡ address_of thread n o → segment_of a ≡ n
+pub segment_is : (thread n o a : ℕ) → n < SEGMENTS → o < OFFSETS → a ≡ address_of thread n o → segment_of a ≡ n
 unfolding address_of segment_of
 segment_is thread n o a small b e = omega arith
 
@@ -253,7 +253,7 @@ times_flat_in f (m ∷ ns) a h =
       | inr none ↦ let r : (n : ℕ) × (0 < times n ns) × (0 < times a (f n)) = times_flat_in f ns a (omega (arith, times-append a (f m) (flat_map f ns))) in (r.0, later_in r.0 m ns r.1, r.2)
     ]
 
-times_flat_ge : (f : ℕ → List ℕ) (ns : List ℕ) (a n : ℕ) → 0 < times n ns → 0 < times a (f n) → 0 < times a (flat_map f ns)
+pub times_flat_ge : (f : ℕ → List ℕ) (ns : List ℕ) (a n : ℕ) → 0 < times n ns → 0 < times a (f n) → 0 < times a (flat_map f ns)
 times_flat_ge f [] a n h k = absurd (omega arith)
 times_flat_ge f (m ∷ ns) a n h k =
     elim (cases_eq n m) [
@@ -261,7 +261,7 @@ times_flat_ge f (m ∷ ns) a n h k =
       | inr ne ↦ let h' : 0 < times n ns = (let t : eqb n m ≡ false = grind (arith, nat_tests, ne) in let z : ◌≡◌ {A = ℕ} (cond (eqb n m) 1 0) 0 = ap (λ b. cond b 1 0) t in omega arith) in omega (arith, times-append a (f m) (flat_map f ns), times_flat_ge f ns a n h' k)
     ]
 
-filter_passes : (test : ℕ → Bool) (xs : List ℕ) (a : ℕ) → 0 < times a (filter test xs) → test a ≡ true
+pub filter_passes : (test : ℕ → Bool) (xs : List ℕ) (a : ℕ) → 0 < times a (filter test xs) → test a ≡ true
 filter_passes test [] a h = absurd (omega arith)
 filter_passes test (x ∷ xs) a h =
     elim (test x) as (λ t. test x ≡ t → 0 < times a (cond t (x ∷ filter test xs) (filter test xs)) → test a ≡ true) [
@@ -311,7 +311,7 @@ number_listed p n s used =
     let i : IsIn p.lists (list_of q) n = listed_at p.segments p.lists n s.listed (in_use_linked p.segments p.lists n s.listed (λ z. let c : true ≡ false = sym (ap is_free (free_of q z)) ∙ used in cc)) in
     listed_either q.role q.generation p.lists n used i
 
-is_some_of : (o : Option Start) → is_some o ≡ true → (x : Start) × (o ≡ Some x)
+pub is_some_of : (o : Option Start) → is_some o ≡ true → (x : Start) × (o ≡ Some x)
 is_some_of None h = cc
 is_some_of (Some x) h = (x, refl)
 
@@ -342,7 +342,7 @@ its_starts thread p targets now g e s small =
     })
 
 -- ---- the calls
-drop_get : (xs : List ℕ) (i : ℕ) → slice_get (drop i xs) 0 ≡ slice_get xs i
+pub drop_get : (xs : List ℕ) (i : ℕ) → slice_get (drop i xs) 0 ≡ slice_get xs i
 drop_get [] zero = refl
 drop_get [] (suc i) = refl
 drop_get (x ∷ xs) zero = refl

@@ -2,7 +2,7 @@
 use Rattle.std.proofs.Common.{◌≡◌, ℕ, ◌+◌, ◌*◌, ◌/◌, ◌<◌, ◌≤◌, Bool, true, false, cond, List, length, get_or, set, map, min, Option, Some, None, option_map, refl, sym, ◌∙◌, ap, subst, arith, inl, inr}
 use Rattle.std.proofs.lemmas.Bool.{cases_eq, cases_lt}
 use Rattle.std.proofs.lemmas.Bool.Decides.{nat_tests}
-use Rattle.std.proofs.lemmas.List.{length-set, length-map, get_or-set_same, get_or-set_other, set-set, map-set, get_or_past, set_past}
+use Rattle.std.proofs.lemmas.List.{length-set, length-map, get_or-set_same, get_or-set_other, map-set, get_or_past, set_past}
 use Rattle.std.proofs.lemmas.Option.{same_Some}
 use Rattle.std.specs.FinMap.{get, insert}
 use Rattle.gc_words.specs.declared.address.TheConstants.{SEGMENTS, OFFSETS}
@@ -134,20 +134,19 @@ view_put p a k index word refers o =
     ∙ ap (λ v. cond b (record (view_of p) { cards = set p.cards v (min (get_or p.cards v 0) refers) }) (view_of p)) card)
 
 -- ---- `put`, all together
-pub record IsPut (thread : ℕ) (targets : Targets) (now : TerritoryView) (old mid new : PoolView) (a n k index word refers : ℕ) : Type 0 where
+pub record IsPut (thread : ℕ) (targets : Targets) (now : TerritoryView) (old new : PoolView) (a n k index word refers : ℕ) : Type 0 where
   pub view_is : territory_view thread old targets ≡ now
   pub settled : IsSettled old
   pub new_settled : IsSettled new
   pub index_in : index < length (words_of (get now.starts a))
   pub segment : n ≡ segment_of a
   pub start : k ≡ offset_of a / 2
-  pub word_put : mid ≡ record old { segments = set old.segments n (put_in (numbered old.segments n) k index word) }
-  pub segments : new.segments ≡ set mid.segments n (noted (numbered mid.segments n) k index refers)
-  pub dirty : chain_of new.dirty 1 ≡ dirty_after (numbered mid.segments n) (chain_of mid.dirty 1) n refers
-  pub areas : new.areas ≡ mid.areas
-  pub lists : new.lists ≡ mid.lists
+  pub segments : new.segments ≡ set old.segments n (noted (put_in (numbered old.segments n) k index word) k index refers)
+  pub dirty : chain_of new.dirty 1 ≡ dirty_after (put_in (numbered old.segments n) k index word) (chain_of old.dirty 1) n refers
+  pub areas : new.areas ≡ old.areas
+  pub lists : new.lists ≡ old.lists
 
-record IsAll (thread : ℕ) (targets : Targets) (now : TerritoryView) (old mid new : PoolView) (a n k index word refers : ℕ) : Type 0 where
+record IsAll (thread : ℕ) (targets : Targets) (now : TerritoryView) (old new : PoolView) (a n k index word refers : ℕ) : Type 0 where
   start : Start
   has : get now.starts a ≡ Some start
   within : n < length old.segments
@@ -158,8 +157,6 @@ record IsAll (thread : ℕ) (targets : Targets) (now : TerritoryView) (old mid n
   address : a ≡ (thread * SEGMENTS + n) * OFFSETS + 2 * k
   index_in : index < length (words_at (numbered old.segments n) k)
   generation_in : start.generation ≤ 8
-  segments : new.segments ≡ set old.segments n (noted (put_in (numbered old.segments n) k index word) k index refers)
-  mid_here : numbered mid.segments n ≡ put_in (numbered old.segments n) k index word
 
 pub put_starts : (thread : ℕ) (targets : Targets) (now : TerritoryView) (old : PoolView) (a n k index : ℕ) → territory_view thread old targets ≡ now → IsSettled old → index < length (words_of (get now.starts a)) → n ≡ segment_of a → k ≡ offset_of a / 2
     → IsStart (numbered old.segments n) k × (index < length (words_at (numbered old.segments n) k))
@@ -170,12 +167,11 @@ put_starts thread targets now old a n k index e s i is ks =
       subst (λ (v : Start). index < length v.words) x_is (subst (λ o. index < length (words_of o)) r.has i),
     )
 
-all : (thread : ℕ) (targets : Targets) (now : TerritoryView) (old mid new : PoolView) (a n k index word refers : ℕ) → IsPut thread targets now old mid new a n k index word refers → IsAll thread targets now old mid new a n k index word refers
-all thread targets now old mid new a n k index word refers d =
+all : (thread : ℕ) (targets : Targets) (now : TerritoryView) (old new : PoolView) (a n k index word refers : ℕ) → IsPut thread targets now old new a n k index word refers → IsAll thread targets now old new a n k index word refers
+all thread targets now old new a n k index word refers d =
     let r : IsReached thread old now a = reach thread old targets now a d.settled d.view_is (has_index (get now.starts a) index d.index_in) in
     let within : n < length old.segments = subst (λ v. v < length old.segments) (sym d.segment) r.present.within in
     let i : IsStart (numbered old.segments n) k × (index < length (words_at (numbered old.segments n) k)) = put_starts thread targets now old a n k index d.view_is d.settled d.index_in d.segment d.start in
-    let mid_here : numbered mid.segments n ≡ put_in (numbered old.segments n) k index word = ap (λ (v : PoolView). numbered v.segments n) d.word_put ∙ numbered-set_same old.segments n (put_in (numbered old.segments n) k index word) within in
     let offset : offset_of a ≡ 2 * k = r.present.even ∙ ap (λ v. 2 * v) (sym d.start) in
     record {
       start = r.start;
@@ -188,100 +184,83 @@ all thread targets now old mid new a n k index word refers d =
       address = r.present.address ∙ (ap (λ v. (thread * SEGMENTS + v) * OFFSETS + 2 * (offset_of a / 2)) (sym d.segment) ∙ ap (λ v. (thread * SEGMENTS + n) * OFFSETS + 2 * v) (sym d.start));
       index_in = i.1;
       generation_in = r.shaped.generation_in;
-      segments = d.segments ∙ (ap (λ v. set mid.segments n (noted v k index refers)) mid_here ∙ (ap (λ (v : PoolView). set v.segments n (noted (put_in (numbered old.segments n) k index word) k index refers)) d.word_put
-          ∙ set-set old.segments n (put_in (numbered old.segments n) k index word) (noted (put_in (numbered old.segments n) k index word) k index refers)));
-      mid_here = mid_here;
     }
 
-put_map : (thread : ℕ) (targets : Targets) (now : TerritoryView) (old mid new : PoolView) (a n k index word refers : ℕ) → IsPut thread targets now old mid new a n k index word refers → (l : IsAll thread targets now old mid new a n k index word refers)
+put_map : (thread : ℕ) (targets : Targets) (now : TerritoryView) (old new : PoolView) (a n k index word refers : ℕ) → IsPut thread targets now old new a n k index word refers → (l : IsAll thread targets now old new a n k index word refers)
     → starts_of (thread * SEGMENTS) new.segments ≡ insert (starts_of (thread * SEGMENTS) old.segments) a (record l.start { words = set l.start.words index word })
-put_map thread targets now old mid new a n k index word refers d l =
+put_map thread targets now old new a n k index word refers d l =
     let p : Segment = numbered old.segments n in
     let q : Segment = put_in p k index word in
     let b : Bool = needs_mark (is_from_role p.role) p.generation refers in
-    let here : numbered new.segments n ≡ noted q k index refers = ap (λ v. numbered v n) l.segments ∙ numbered-set_same old.segments n (noted q k index refers) l.within in
+    let here : numbered new.segments n ≡ noted q k index refers = ap (λ v. numbered v n) d.segments ∙ numbered-set_same old.segments n (noted q k index refers) l.within in
     let at_p : spot p k ≡ Some l.start = spot_start p k l.starts ∙ ap Some (sym l.object) in
     changed_map (thread * SEGMENTS) old.segments new.segments n k a (record l.start { words = set l.start.words index word }) (all_small old.segments d.settled.sound) (all_small new.segments d.new_settled.sound)
     (record {
       small = l.small;
       address = l.address;
       others = λ j ne. ap (λ v. spot v j) here ∙ (spot_noted b q (place_in q k index) refers j ∙ spot_put_other p k index word j (d.settled.sound n).laid l.starts.1 (in_words p k index l.index_in) ne);
-      elsewhere = λ m j ne. ap (λ v. spot (numbered v m) j) l.segments ∙ ap (λ v. spot v j) (numbered-set_other old.segments n m (noted q k index refers) ne);
+      elsewhere = λ m j ne. ap (λ v. spot (numbered v m) j) d.segments ∙ ap (λ v. spot v j) (numbered-set_other old.segments n m (noted q k index refers) ne);
     })
     (ap (λ v. spot v k) here ∙ (spot_noted b q (place_in q k index) refers k ∙ spot_put p k index word l.start at_p))
 
-seen_before : (thread : ℕ) (targets : Targets) (now : TerritoryView) (old mid new : PoolView) (a n k index word refers : ℕ) → (l : IsAll thread targets now old mid new a n k index word refers) → n ≡ segment_of a
+seen_before : (thread : ℕ) (targets : Targets) (now : TerritoryView) (old new : PoolView) (a n k index word refers : ℕ) → (l : IsAll thread targets now old new a n k index word refers) → n ≡ segment_of a
     → segment_at (territory_view thread old targets) (segment_of a) ≡ Some (view_of (numbered old.segments n))
-seen_before thread targets now old mid new a n k index word refers l is =
+seen_before thread targets now old new a n k index word refers l is =
     ap (λ v. get_or (map seen old.segments) v None) (sym is) ∙ (seen_at old.segments n ∙ seen_used (numbered old.segments n) l.starts.0)
 
-pub put_view : (thread : ℕ) (targets : Targets) (now : TerritoryView) (old mid new : PoolView) (a n k index word refers : ℕ) → IsPut thread targets now old mid new a n k index word refers → territory_view thread new targets ≡ with_word now a index word refers
+pub put_view : (thread : ℕ) (targets : Targets) (now : TerritoryView) (old new : PoolView) (a n k index word refers : ℕ) → IsPut thread targets now old new a n k index word refers → territory_view thread new targets ≡ with_word now a index word refers
 unfolding view_of
-put_view thread targets now old mid new a n k index word refers d =
-    let l : IsAll thread targets now old mid new a n k index word refers = all thread targets now old mid new a n k index word refers d in
+put_view thread targets now old new a n k index word refers d =
+    let l : IsAll thread targets now old new a n k index word refers = all thread targets now old new a n k index word refers d in
     let u : TerritoryView = territory_view thread old targets in
     let p : Segment = numbered old.segments n in
     let q : Segment = noted (put_in p k index word) k index refers in
     let b : Bool = needs_mark (is_from_role p.role) p.generation refers in
     let has : get u.starts a ≡ Some l.start = ap (λ (v : TerritoryView). get v.starts a) d.view_is ∙ l.has in
-    let seg : segment_at u (segment_of a) ≡ Some (view_of p) = seen_before thread targets now old mid new a n k index word refers l d.segment in
+    let seg : segment_at u (segment_of a) ≡ Some (view_of p) = seen_before thread targets now old new a n k index word refers l d.segment in
     let q_used : is_free q.role ≡ false = free_noted b (put_in p k index word) (place_in (put_in p k index word) k index) refers ∙ l.starts.0 in
     let q_seen : seen q ≡ option_map (with_card a index refers) (segment_at u (segment_of a)) = seen_used q q_used ∙ (ap Some (view_put p a k index word refers l.offset) ∙ sym (ap (option_map (with_card a index refers)) seg)) in
     same_view (territory_view thread new targets) (with_word u a index word refers)
     refl
-    (put_map thread targets now old mid new a n k index word refers d l ∙ sym (ap (λ o. put_start u.starts a o index word) has))
-    (ap (map seen) l.segments ∙ (map-set seen old.segments n q ∙ (ap (set (map seen old.segments) n) q_seen ∙ ap (λ v. set (map seen old.segments) v (option_map (with_card a index refers) (segment_at u (segment_of a)))) d.segment)))
-    (d.areas ∙ ap (λ (v : PoolView). v.areas) d.word_put)
-    (d.lists ∙ ap (λ (v : PoolView). v.lists) d.word_put)
-    (d.dirty ∙ (ap (λ v. dirty_after v (chain_of mid.dirty 1) n refers) l.mid_here ∙ (ap (λ (v : PoolView). cond b (with_dirty (chain_of v.dirty 1) n) (chain_of v.dirty 1)) d.word_put
-    ∙ (ap (λ v. cond b (with_dirty (chain_of old.dirty 1) v) (chain_of old.dirty 1)) d.segment ∙ sym (ap (λ o. cond (marks o refers) (with_dirty (chain_of old.dirty 1) (segment_of a)) (chain_of old.dirty 1)) seg)))))
+    (put_map thread targets now old new a n k index word refers d l ∙ sym (ap (λ o. put_start u.starts a o index word) has))
+    (ap (map seen) d.segments ∙ (map-set seen old.segments n q ∙ (ap (set (map seen old.segments) n) q_seen ∙ ap (λ v. set (map seen old.segments) v (option_map (with_card a index refers) (segment_at u (segment_of a)))) d.segment)))
+    d.areas
+    d.lists
+    (d.dirty ∙ (ap (λ v. cond b (with_dirty (chain_of old.dirty 1) v) (chain_of old.dirty 1)) d.segment ∙ sym (ap (λ o. cond (marks o refers) (with_dirty (chain_of old.dirty 1) (segment_of a)) (chain_of old.dirty 1)) seg)))
     refl
     ∙ ap (λ v. with_word v a index word refers) d.view_is
 
-pub put_sound : (thread : ℕ) (targets : Targets) (now : TerritoryView) (old mid new : PoolView) (a n k index word refers : ℕ) (generation_at : ℕ → Option ℕ) → IsPut thread targets now old mid new a n k index word refers
+pub put_sound : (thread : ℕ) (targets : Targets) (now : TerritoryView) (old new : PoolView) (a n k index word refers : ℕ) (generation_at : ℕ → Option ℕ) → IsPut thread targets now old new a n k index word refers
     → TellsLower generation_at (get now.starts a) word refers → AreCardsSound generation_at now → AreCardsSound generation_at (territory_view thread new targets)
 unfolding view_of
-put_sound thread targets now old mid new a n k index word refers generation_at d told sound =
-    let l : IsAll thread targets now old mid new a n k index word refers = all thread targets now old mid new a n k index word refers d in
+put_sound thread targets now old new a n k index word refers generation_at d told sound =
+    let l : IsAll thread targets now old new a n k index word refers = all thread targets now old new a n k index word refers d in
     let u : TerritoryView = territory_view thread old targets in
     let p : Segment = numbered old.segments n in
     let has : get u.starts a ≡ Some l.start = ap (λ (v : TerritoryView). get v.starts a) d.view_is ∙ l.has in
-    let seg : segment_at u (segment_of a) ≡ Some (view_of p) = seen_before thread targets now old mid new a n k index word refers l d.segment in
+    let seg : segment_at u (segment_of a) ≡ Some (view_of p) = seen_before thread targets now old new a n k index word refers l d.segment in
     let done : AreCardsSound generation_at (with_word u a index word refers) = sound_put generation_at u a index word refers l.start (view_of p) has seg (ap (λ (v : Start). v.generation) (sym l.object)) l.generation_in
     (subst (λ v. v < length (map seen old.segments)) d.segment (omega (arith, l.within, length-map old.segments seen)))
     (subst (λ (v : Start). index < length v.words) (sym l.object) l.index_in)
     (subst (λ (v : TerritoryView). TellsLower generation_at (get v.starts a) word refers) (sym d.view_is) told) (subst (AreCardsSound generation_at) (sym d.view_is) sound) in
-    subst (AreCardsSound generation_at) (ap (λ v. with_word v a index word refers) d.view_is ∙ sym (put_view thread targets now old mid new a n k index word refers d)) done
-
--- what `note` needs after the word was put
-pub note_starts : (thread : ℕ) (targets : Targets) (now : TerritoryView) (old mid : PoolView) (a n k index word : ℕ) → territory_view thread old targets ≡ now → IsSettled old → index < length (words_of (get now.starts a)) → n ≡ segment_of a → k ≡ offset_of a / 2
-    → mid ≡ record old { segments = set old.segments n (put_in (numbered old.segments n) k index word) } → IsStart (numbered mid.segments n) k × (index < length (words_at (numbered mid.segments n) k))
-note_starts thread targets now old mid a n k index word e s i is ks m =
-    let r : IsReached thread old now a = reach thread old targets now a s e (has_index (get now.starts a) index i) in
-    let p : Segment = numbered old.segments n in
-    let before : IsStart p k × (index < length (words_at p k)) = put_starts thread targets now old a n k index e s i is ks in
-    let within : n < length old.segments = subst (λ v. v < length old.segments) (sym is) r.present.within in
-    let here : numbered mid.segments n ≡ put_in p k index word = ap (λ (v : PoolView). numbered v.segments n) m ∙ numbered-set_same old.segments n (put_in p k index word) within in
-    let after : Some (object_at (put_in p k index word) k) ≡ Some (record (object_at p k) { words = set (words_at p k) index word }) = sym (spot_start (put_in p k index word) k before.0) ∙ spot_put p k index word (object_at p k) (spot_start p k before.0) in
-    let words : words_at (put_in p k index word) k ≡ set (words_at p k) index word = ap (λ (v : Start). v.words) (same_Some _ _ after) in
-    (subst (λ v. IsStart v k) (sym here) before.0, subst (λ v. index < length (words_at v k)) (sym here) (omega (arith, ap length words, length-set (words_at p k) index word, before.1)))
+    subst (AreCardsSound generation_at) (ap (λ v. with_word v a index word refers) d.view_is ∙ sym (put_view thread targets now old new a n k index word refers d)) done
 
 -- each segment in use has its starts
 starts_noted : (b : Bool) (p : Segment) (word g j : ℕ) → IsStart p j → IsStart (cond b (marked_at p word g) p) j
 starts_noted true p word g j s = s
 starts_noted false p word g j s = s
 
-pub used_put : (thread : ℕ) (targets : Targets) (now : TerritoryView) (old mid new : PoolView) (a n k index word refers : ℕ) → IsPut thread targets now old mid new a n k index word refers → AreUsed old.segments → AreUsed new.segments
-used_put thread targets now old mid new a n k index word refers d u m used =
-    let l : IsAll thread targets now old mid new a n k index word refers = all thread targets now old mid new a n k index word refers d in
+pub used_put : (thread : ℕ) (targets : Targets) (now : TerritoryView) (old new : PoolView) (a n k index word refers : ℕ) → IsPut thread targets now old new a n k index word refers → AreUsed old.segments → AreUsed new.segments
+used_put thread targets now old new a n k index word refers d u m used =
+    let l : IsAll thread targets now old new a n k index word refers = all thread targets now old new a n k index word refers d in
     let p : Segment = numbered old.segments n in
     let q : Segment = put_in p k index word in
     let r : Segment = noted q k index refers in
     elim (cases_eq m n) [
       | inl e ↦
-          let here : numbered new.segments m ≡ r = ap (λ v. numbered v m) l.segments ∙ (ap (numbered (set old.segments n r)) e ∙ numbered-set_same old.segments n r l.within) in
+          let here : numbered new.segments m ≡ r = ap (λ v. numbered v m) d.segments ∙ (ap (numbered (set old.segments n r)) e ∙ numbered-set_same old.segments n r l.within) in
           subst (λ v. (j : ℕ) × IsStart v j) (sym here) (k, starts_noted (needs_mark (is_from_role p.role) p.generation refers) q (place_in q k index) refers k l.starts)
       | inr ne ↦
-          let same : numbered new.segments m ≡ numbered old.segments m = ap (λ v. numbered v m) l.segments ∙ numbered-set_other old.segments n m r ne in
+          let same : numbered new.segments m ≡ numbered old.segments m = ap (λ v. numbered v m) d.segments ∙ numbered-set_other old.segments n m r ne in
           subst (λ v. (j : ℕ) × IsStart v j) (sym same) (u m (subst (λ (v : Segment). is_free v.role ≡ false) same used))
     ]

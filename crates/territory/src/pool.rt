@@ -5,9 +5,12 @@ ghost use Rattle.segment.specs.Segments.{IsStart};
 ghost use Rattle.territory.specs.Pools.{IsSettled, numbered};
 
 mod collection;
+mod copying;
+mod finishing;
 mod lists;
 mod numbers;
 mod objects;
+mod olds;
 mod room;
 
 use crate::counts::SegmentCounts;

@@ -8,7 +8,10 @@ ghost use Rattle.territory.specs.Territories.{no_territory, words_of, with_word,
 
 mod allocating;
 mod collecting;
+mod copying;
+mod finishing;
 mod listing;
+mod olds;
 
 use crate::pool::Pool;
 use gc_words::{Address, THREADS};
@@ -42,6 +45,7 @@ impl Model for Territory {
     ghost use Rattle.gc_words.specs.declared.address.TheConstants.{THREADS};
     ghost use Rattle.territory.specs.Territories.{TerritoryView, coded_territory};
     ghost use Rattle.territory.specs.Pools.{IsSettled, AreUsed, territory_view};
+    ghost use Rattle.territory.specs.FinishedPools.{IsBetween};
 
     ghost Value = { TerritoryView };
 
@@ -49,7 +53,8 @@ impl Model for Territory {
 
     ghost view = { λ a. territory_view a.thread a.pool a.targets };
 
-    ghost invariant = { λ a. (a.thread < THREADS) × IsSettled a.pool × AreUsed a.pool.segments };
+    ghost invariant = { λ a. (a.thread < THREADS) × IsSettled a.pool × AreUsed a.pool.segments
+        × IsBetween a.pool.segments a.targets };
 }
 
 /// The number of the segment of an address, and the number of its start there: one for each two words.
@@ -152,8 +157,7 @@ impl Territory {
             → AreCardsSound generation_at self.old → AreCardsSound generation_at self.new }
     {
         let (segment, start) = place(at);
-        self.pool.put(segment, start, index as usize, word);
-        self.pool.note(segment, start, index as usize, refers);
+        self.pool.put(segment, start, index as usize, word, refers);
     }
 
     /// The address of start `k` of segment `n`.

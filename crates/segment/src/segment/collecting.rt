@@ -3,7 +3,7 @@
 
 ghost use Rattle.std.specs.Prelude.{◌≡◌, ℕ, ◌+◌, ◌<◌, false, length, vec_len, replicate};
 ghost use Rattle.segment.specs.declared.segment.Role.TheVariants.{From};
-ghost use Rattle.segment.specs.Segments.{IsStart, is_free, set_aside, held_at, marked_births, kept_marked, spot, kept_spot};
+ghost use Rattle.segment.specs.Segments.{IsStart, is_free, set_aside, held_at, count_of_births, marked_births, kept_marked, spot, kept_spot};
 
 use super::{Role, Segment};
 
@@ -23,6 +23,7 @@ impl Segment {
         ensures { self.new ≡ held_at self.old k }
     {
         self.marks[k] = true;
+        self.holds = true;
     }
 
     /// Takes a segment that was set aside into use again, as one of this generation in which a collection
@@ -33,7 +34,9 @@ impl Segment {
         ensures starts { (k : ℕ) → spot self.new k ≡ kept_spot self.old generation k }
     {
         keep_marked_births(&mut self.births, &self.marks);
+        self.starts = count_births(&self.births);
         self.marks.fill(false);
+        self.holds = false;
         self.generation = generation;
         self.role = Role::Current;
         self.was_held = true;
@@ -50,4 +53,11 @@ fn keep_marked_births(births: &mut Vec<u32>, marks: &Vec<bool>)
             births[k] = 0;
         }
     }
+}
+
+/// How many births there are.
+fn count_births(births: &[u32]) -> usize
+    ensures { result ≡ count_of_births births.now }
+{
+    births.iter().filter(|birth| **birth != 0).count()
 }

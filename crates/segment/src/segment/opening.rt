@@ -24,8 +24,10 @@ impl Segment {
             top: 0,
             words: Vec::new(alloc),
             births: Vec::new(alloc),
+            starts: 0,
             cards: CardTable::new(alloc, 0)?,
             marks: Vec::new(alloc),
+            holds: false,
         })
     }
 
@@ -81,7 +83,9 @@ impl Segment {
     {
         clear_words(&mut self.words, self.top);
         self.births.fill(0);
+        self.starts = 0;
         self.marks.fill(false);
+        self.holds = false;
         clear_cards(&mut self.cards, self.words.len().div_ceil(WORDS_PER_CARD));
         self.top = 0;
     }
@@ -101,7 +105,9 @@ impl Segment {
         let new_cards = CardTable::new(alloc, words)?;
         self.words = new_words;
         self.births = new_births;
+        self.starts = 0;
         self.marks = new_marks;
+        self.holds = false;
         self.cards = new_cards;
         self.top = 0;
         Ok(())
@@ -127,7 +133,9 @@ impl Segment {
         let alloc = *self.words.allocator();
         self.words = Vec::new(alloc);
         self.births = Vec::new(alloc);
+        self.starts = 0;
         self.marks = Vec::new(alloc);
+        self.holds = false;
         self.top = 0;
     }
 }

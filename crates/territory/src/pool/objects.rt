@@ -12,7 +12,7 @@ use cards::CLEAN;
 use segment::{Role, Space};
 
 /// How many cells an object of a space is: a queue cell is one.
-fn cells_of(space: Space) -> u64
+pub(super) fn cells_of(space: Space) -> u64
     ensures { result ≡ cond (is_cell_space space) 1 0 }
 {
     match space {
@@ -59,38 +59,26 @@ impl Pool {
         offset
     }
 
-    /// Puts a word into start `k` of segment `n`.
-    pub fn put(&mut self, n: usize, k: usize, index: usize, word: u64)
+    /// Puts a word into start `k` of segment `n` that refers to a generation; 255 stands for no reference. Where
+    /// a mark is needed the card of the word gets it, and the segment is dirty from then on.
+    pub fn put(&mut self, n: usize, k: usize, index: usize, word: u64, refers: u8)
         requires settled { IsSettled self.old }
         requires start { IsStart (numbered self.old.segments n) k }
         requires index_in { index < length (object_at (numbered self.old.segments n) k).words }
         ensures settled { IsSettled self.new }
-        ensures after { self.new ≡ record self.old {
-          segments = slice_set self.old.segments n (put_in (numbered self.old.segments n) k index word);
-        } }
-    {
-        self.segments[n].put(k, index, word);
-    }
-
-    /// Notes that a word of start `k` of segment `n` refers to a generation, where a mark is needed: the
-    /// card of the word gets it, and the segment is dirty from then on.
-    pub fn note(&mut self, n: usize, k: usize, index: usize, refers: u8)
-        requires settled { IsSettled self.old }
-        requires start { IsStart (numbered self.old.segments n) k }
-        requires index_in { index < length (object_at (numbered self.old.segments n) k).words }
-        ensures settled { IsSettled self.new }
-        ensures segments { self.new.segments
-            ≡ slice_set self.old.segments n (noted (numbered self.old.segments n) k index refers) }
-        ensures dirty { chain_of self.new.dirty 1
-            ≡ dirty_after (numbered self.old.segments n) (chain_of self.old.dirty 1) n refers }
+        ensures segments { let word_put = put_in (numbered self.old.segments n) k index word in
+            self.new.segments ≡ slice_set self.old.segments n (noted word_put k index refers) }
+        ensures dirty { let word_put = put_in (numbered self.old.segments n) k index word in
+            chain_of self.new.dirty 1 ≡ dirty_after word_put (chain_of self.old.dirty 1) n refers }
         ensures areas { self.new.areas ≡ self.old.areas }
         ensures lists { self.new.lists ≡ self.old.lists }
     {
-        let segment = &self.segments[n];
+        let segment = &mut self.segments[n];
+        segment.put(k, index, word);
         if !needs_mark(segment.role(), segment.generation(), refers) {
             return;
         }
-        let was_clean = self.segments[n].mark(k, index, refers);
+        let was_clean = segment.mark(k, index, refers);
         if was_clean {
             self.dirty.push_last(1, n);
         }

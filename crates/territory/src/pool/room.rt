@@ -15,7 +15,7 @@ use std::alloc::AllocError;
 const GREATEST_SHARED: usize = 128;
 
 /// The words of a segment that objects share.
-const SHARED_WORDS: usize = 512;
+pub(super) const SHARED_WORDS: usize = 512;
 
 /// The generations 0 to 8.
 const GENERATIONS: usize = 9;

@@ -1,3 +1,4 @@
+use Rattle.territory.proofs.Unheld.{between_made}
 use Rattle.std.proofs.Common.{ap, sym, ◌∙◌}
 use Rattle.std.specs.FinMap as map
 use Rattle.territory.specs.Territories.{TerritoryView, fresh_start}
@@ -40,4 +41,4 @@ returns-clause-sound c =
     (one_start _ _ _ _ _ _ _ _ _ _ _ _ _ d (address_is _ _ _ _ _ c.at.ensures.value c.grow-offset.ensures.offset) c.requires.length_in c.of-space.ensures c.first_word-first.ensures)
 
 pub invariant_of-self-2 : goal.invariant_of-self-2
-invariant_of-self-2 c = (c.self.invariant.0, c.grow-offset.ensures.settled, used_made _ _ _ _ _ _ _ _ _ (made _ _ _ _ _ _ _ _ _ _ _ c.self.invariant.1 c.room_for.ensures.settled c.grow-offset.ensures.settled c.in_ok-n.ensures.ok c.grow-offset.ensures.segments c.size-words.ensures c.requires.born c.of-space.ensures c.first_word-first.ensures) c.self.invariant.2)
+invariant_of-self-2 c = (c.self.invariant.0, c.grow-offset.ensures.settled, used_made _ _ _ _ _ _ _ _ _ (made _ _ _ _ _ _ _ _ _ _ _ c.self.invariant.1 c.room_for.ensures.settled c.grow-offset.ensures.settled c.in_ok-n.ensures.ok c.grow-offset.ensures.segments c.size-words.ensures c.requires.born c.of-space.ensures c.first_word-first.ensures) c.self.invariant.2, between_made c.self.inside.pool c.room_for.new.self c.grow-offset.new.self _ _ _ _ _ _ _ c.in_ok-n.ensures.ok c.grow-offset.ensures.segments c.self.invariant.3)

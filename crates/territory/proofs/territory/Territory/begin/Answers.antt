@@ -1,8 +1,9 @@
+use Rattle.territory.proofs.Unheld.{between_begun}
 use Rattle.territory.proofs.BegunTerritory.{begun_used, begun_starts, begun_segments, begun_areas, begun_lists, begun_dirty, begun_sound}
 use Rattle.territory.proofs.territory.Territory.begin.Goals as goal
 
 pub invariant_of-self : goal.invariant_of-self
-invariant_of-self c = (c.self.invariant.0, c.begin.ensures.settled, begun_used _ _ _ c.begin.ensures.begun c.self.invariant.2)
+invariant_of-self c = (c.self.invariant.0, c.begin.ensures.settled, begun_used _ _ _ c.begin.ensures.begun c.self.invariant.2, between_begun _ _ _ _ _ c.begin.ensures.begun c.requires.generations c.self.invariant.3)
 
 pub returns-clause-starts : goal.returns-clause-starts
 returns-clause-starts c = begun_starts _ _ _ _ _ _ c.self.view_is c.self.invariant.1 c.begin.ensures.settled c.begin.ensures.begun

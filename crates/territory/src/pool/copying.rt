@@ -1,0 +1,91 @@
+//! Copies of starts in the segments of a pool.
+
+ghost use Rattle.std.specs.Prelude.{◌≡◌, ◌≢◌, ℕ, ◌<◌, false, length, vec_len};
+ghost use Rattle.segment.specs.Segments.{IsSound, IsStart, HasRoom, is_free, size_at};
+ghost use Rattle.territory.specs.Pools.{IsSettled, numbered};
+ghost use Rattle.territory.specs.Copies.{with_copied};
+
+use super::Pool;
+use super::objects::cells_of;
+use segment::Segment;
+
+impl Pool {
+    /// Copies start `k` of segment `from`, of so many words, to the top of segment `n`, which is of the same
+    /// space, and gives the copy's offset.
+    pub fn copy(&mut self, from: usize, k: usize, n: usize, size: usize) -> usize
+        requires settled { IsSettled self.old }
+        requires start { IsStart (numbered self.old.segments from) k }
+        requires size_is { size ≡ size_at (numbered self.old.segments from) k }
+        requires within { n < length self.old.segments }
+        requires used { is_free (numbered self.old.segments n).role ≡ false }
+        requires space { (numbered self.old.segments from).space ≡ (numbered self.old.segments n).space }
+        requires room { HasRoom (numbered self.old.segments n) size }
+        ensures settled { IsSettled self.new }
+        ensures offset { result ≡ (numbered self.old.segments n).top }
+        ensures segments { self.new.segments ≡ with_copied self.old.segments from k n }
+        ensures areas { self.new.areas ≡ self.old.areas }
+        ensures lists { self.new.lists ≡ self.old.lists }
+        ensures dirty { self.new.dirty ≡ self.old.dirty }
+    {
+        let cells = cells_of(self.segments[n].space());
+        let offset = copy_start(&mut self.segments, from, k, n, size);
+        self.counts.cells += cells;
+        offset
+    }
+}
+
+/// Copies a start of one segment to the top of a segment of the same space, and gives the copy's offset.
+fn copy_start(segments: &mut Vec<Segment>, from: usize, k: usize, n: usize, size: usize) -> usize
+    requires sound { (m : ℕ) → IsSound (numbered segments.old.items m) }
+    requires start { IsStart (numbered segments.old.items from) k }
+    requires size_is { size ≡ size_at (numbered segments.old.items from) k }
+    requires within { n < vec_len segments.old }
+    requires space { (numbered segments.old.items from).space ≡ (numbered segments.old.items n).space }
+    requires room { HasRoom (numbered segments.old.items n) size }
+    ensures offset { result ≡ (numbered segments.old.items n).top }
+    ensures after { segments.new.items ≡ with_copied segments.old.items from k n }
+{
+    if size == 2 {
+        return copy_two(segments, from, k, n);
+    }
+    if from == n {
+        return segments[n].copy_here(k, size);
+    }
+    copy_apart(segments, from, k, n, size)
+}
+
+/// The same for a start of two words, as pairs are: no call and no loop for its words.
+fn copy_two(segments: &mut [Segment], from: usize, k: usize, n: usize) -> usize
+    requires sound { (m : ℕ) → IsSound (numbered segments.old m) }
+    requires start { IsStart (numbered segments.old from) k }
+    requires size_is { 2 ≡ size_at (numbered segments.old from) k }
+    requires within { n < length segments.old }
+    requires space { (numbered segments.old from).space ≡ (numbered segments.old n).space }
+    requires room { HasRoom (numbered segments.old n) 2 }
+    ensures offset { result ≡ (numbered segments.old n).top }
+    ensures after { segments.new ≡ with_copied segments.old from k n }
+{
+    let (first, second) = segments[from].two_words(k);
+    let birth = segments[from].birth(k);
+    segments[n].grow_two(first, second, birth)
+}
+
+/// The same from one segment to another.
+fn copy_apart(segments: &mut [Segment], from: usize, k: usize, n: usize, size: usize) -> usize
+    requires apart { from ≢ n }
+    requires start { IsStart (numbered segments.old from) k }
+    requires size_is { size ≡ size_at (numbered segments.old from) k }
+    requires within { n < length segments.old }
+    requires space { (numbered segments.old from).space ≡ (numbered segments.old n).space }
+    requires room { HasRoom (numbered segments.old n) size }
+    ensures offset { result ≡ (numbered segments.old n).top }
+    ensures after { segments.new ≡ with_copied segments.old from k n }
+{
+    if from < n {
+        let (front, back) = segments.split_at_mut(n);
+        back[0].copy_from(&front[from], k, size)
+    } else {
+        let (front, back) = segments.split_at_mut(from);
+        front[n].copy_from(&back[0], k, size)
+    }
+}

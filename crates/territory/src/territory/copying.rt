@@ -1,0 +1,43 @@
+//! Copies of objects, for a collection that moves them.
+
+ghost use Rattle.std.specs.Prelude.{◌≡◌, ℕ, ◌≤◌, IfOk, IfSome, IsSome, OnErr, Option, None};
+ghost use Rattle.std.specs.FinMap as map;
+ghost use Rattle.gc_words.specs.Layout.{thread_of, segment_of, IsAddress};
+ghost use Rattle.territory.specs.Territories.{IsAsBefore, AreCardsSound};
+ghost use Rattle.territory.specs.Copies.{copy_in, IsPlacedLike, RefersToNoneBelow};
+
+use super::{Territory, place};
+use gc_words::Address;
+use std::alloc::AllocError;
+
+impl Territory {
+    /// Makes a copy of an object or cell in this generation, of the same kind, length, birth and words, and
+    /// gives its address. It goes where `allocate` would put a new one of its kind and length. No card is
+    /// marked: where a word refers to something younger than the copy, it has to be put again. Takes memory
+    /// where it opens a segment; refused, the starts and segments are as before.
+    pub fn copy(&mut self, at: Address, generation: u8) -> Result<Address, AllocError>
+        requires start { IsSome (map.get self.old.starts at) }
+        requires generation_in { generation ≤ 8 }
+        ensures address { IfOk result (λ a. IsAddress a × (thread_of a ≡ self.old.thread)) }
+        ensures free { IfOk result (λ a. map.get self.old.starts a ≡ None) }
+        ensures starts { IfOk result (λ a. IfSome (map.get self.old.starts at) (λ x.
+            self.new.starts ≡ map.insert self.old.starts a (copy_in generation x))) }
+        ensures segments { IfOk result (λ a. IfSome (map.get self.old.starts at) (λ x.
+            IsPlacedLike self.old self.new at x generation (segment_of a))) }
+        ensures sound { IfOk result (λ a. IfSome (map.get self.old.starts at) (λ x.
+            (generation_at : ℕ → Option ℕ) → RefersToNoneBelow generation_at x generation
+            → AreCardsSound generation_at self.old → AreCardsSound generation_at self.new)) }
+        ensures refused { OnErr result (IsAsBefore self.old self.new) }
+        ensures thread { self.new.thread ≡ self.old.thread }
+        ensures dirty { self.new.dirty ≡ self.old.dirty }
+        ensures targets { self.new.targets ≡ self.old.targets }
+    {
+        let (segment, start) = place(at);
+        let source = self.pool.segment(segment);
+        let space = source.space();
+        let size = source.size(start);
+        let n = self.pool.room_for(space, generation, size)?;
+        let offset = self.pool.copy(segment, start, n, size);
+        Ok(Address::at(self.thread, n as u64, offset as u32))
+    }
+}
