@@ -1,9 +1,9 @@
 -- Going through the objects of a heap by number gives the numbers that going through the graph gives.
-use Rattle.std.proofs.Common.{◌≡◌, ◌≤◌, ◌<◌, ℕ, zero, suc, ◌+◌, ◌/◌, ◌++◌, cond, not, codes, Bool, true, false, List, [], ◌∷◌, map, fold, flat_map, length, slice_get, get_or, take, append-nil, append_assoc, Option, Some, None, IsTrue, refl, sym, ap, subst, ◌∙◌, arith}
-use Rattle.std.specs.List.{AllByRecursion}
+use Rattle.std.proofs.Common.{◌≡◌, ◌≤◌, ◌<◌, ℕ, zero, suc, ◌+◌, ◌/◌, ◌++◌, cond, not, eqb, codes, Bool, true, false, List, [], ◌∷◌, map, fold, flat_map, length, slice_get, get_or, take, append-nil, append_assoc, Option, Some, None, IsTrue, refl, sym, ap, subst, ◌∙◌, arith}
+use Rattle.std.specs.List.{AllByRecursion, IsDistinct}
 use Rattle.std.proofs.lemmas.Bool.{false≢true}
 use Rattle.std.specs.Option.{option_map}
-use Rattle.std.proofs.lemmas.List.{length-map, length-append, map-append, take_more, take_all}
+use Rattle.std.proofs.lemmas.List.{length-map, length-append, map-append, take_more, take_all, take-append-le}
 use Rattle.std.proofs.lemmas.Grind.{flat_map-append}
 use Rattle.std.proofs.lemmas.Option.{same_Some, get_or_from_slice_get, slice_get-map, slice_get_past, slice_get_within, slice_get-get_or}
 use Rattle.trace_types.proofs.Answering.{found_born}
@@ -11,7 +11,7 @@ use Rattle.trace_types.specs.Values.{objects_in, object_at}
 use Rattle.trace_types.specs.States.{State}
 use Rattle.trace_types.specs.Rules.{has, ◌⊆◌}
 use Rattle.trace_types.specs.WellFormed.{births}
-use Rattle.trace_types.specs.Printing.{with_number, numbered, numbered_at, numbering, value_text, object_line, print_text}
+use Rattle.trace_types.specs.Printing.{with_number, number_of, numbered, numbered_at, numbering, value_text, object_line, print_text}
 use Rattle.gc_words.specs.declared.value.Value.{Value}
 use Rattle.gc_words.specs.declared.value.Value.TheVariants.{Fixnum, Nil, True, False, Bwp, Object as object}
 use Rattle.gc_words.specs.Word.{value_of}
@@ -25,11 +25,13 @@ use Rattle.heap_store.specs.Graphs.{IsInGraph}
 use Rattle.heap_store.specs.Stands.{Stands}
 use Rattle.heap_store.specs.Starts.{Starts, is_object, is_cell, birth_of, read}
 use Rattle.heap_print.specs.Words.{reference, birth_at, by_word, IsReference, shown_words, with_words, word_value}
-use Rattle.heap_print.specs.Lines.{line_text}
+use Rattle.heap_print.specs.Lines.{line_text, GoesOn}
 use Rattle.heap_print.proofs.Renamed.{numbers_all}
 use Rattle.heap_print.proofs.Reading.{place_of_reference, named_place, read-renamed, value_text-renamed, IsNamed}
 use Rattle.heap_print.proofs.Printed.{shown_there, words_refer, went_through}
-use Rattle.heap_print.proofs.Numbering.{walked_all}
+use Rattle.heap_print.proofs.Numbering.{walked_all, distinct}
+use Rattle.heap_print.proofs.Visited.{number_at}
+use Rattle.heap_print.proofs.Shown.{grown, goes_further}
 use Rattle.heap_print.proofs.Lines.{line_shown}
 
 -- so many objects were gone through, and these have numbers
@@ -47,14 +49,14 @@ started_object h a small there = record {
   so_far = λ s stands. ap (λ b. birth_of (starts_of h b) ∷ []) (place_of_reference a);
 }
 
-pub started : (h : HeapView) (v : Value) (numbers : List ℕ) → ((a : ℕ) → v ≡ object a → IsAddress a) → ((a : ℕ) → v ≡ object a → IsTrue (is_object (starts_of h a))) →
-    ((a : ℕ) → v ≡ object a → numbers ≡ reference a ∷ []) → (((a : ℕ) → v ≡ object a → ⊥) → numbers ≡ []) → Went h v numbers 0
-started h (object a) numbers small there new other = rw (new a refl) (started_object h a (small a refl) (there a refl))
-started h (Fixnum n) numbers small there new other = rw (other (λ a e. cc)) (record { refer = tt; within = omega arith; so_far = λ s stands. refl })
-started h Nil numbers small there new other = rw (other (λ a e. cc)) (record { refer = tt; within = omega arith; so_far = λ s stands. refl })
-started h True numbers small there new other = rw (other (λ a e. cc)) (record { refer = tt; within = omega arith; so_far = λ s stands. refl })
-started h False numbers small there new other = rw (other (λ a e. cc)) (record { refer = tt; within = omega arith; so_far = λ s stands. refl })
-started h Bwp numbers small there new other = rw (other (λ a e. cc)) (record { refer = tt; within = omega arith; so_far = λ s stands. refl })
+pub started : (h : HeapView) (v : Value) → ((a : ℕ) → v ≡ object a → IsAddress a) → ((a : ℕ) → v ≡ object a → IsTrue (is_object (starts_of h a))) →
+    Went h v (fold with_number [] (objects_in (by_word v ∷ []))) 0
+started h (object a) small there = started_object h a (small a refl) (there a refl)
+started h (Fixnum n) small there = record { refer = tt; within = omega arith; so_far = λ s stands. refl }
+started h Nil small there = record { refer = tt; within = omega arith; so_far = λ s stands. refl }
+started h True small there = record { refer = tt; within = omega arith; so_far = λ s stands. refl }
+started h False small there = record { refer = tt; within = omega arith; so_far = λ s stands. refl }
+started h Bwp small there = record { refer = tt; within = omega arith; so_far = λ s stands. refl }
 
 -- ---- one object more
 
@@ -151,51 +153,114 @@ went_all h v numbers n went done there s stands =
 abbrev pub line_of : HeapView → List ℕ → State → ℕ → List ℕ
 line_of h numbers s birth = object_line (map (birth_at (starts_of h)) numbers) birth (object_at s.graph birth)
 
--- the text has the lines of the first n objects
-abbrev pub Wrote : HeapView → List ℕ → List ℕ → List ℕ → ℕ → Type 0
-Wrote h numbers old text n = (s : State) → Stands h s → text ≡ old ++ flat_map (line_of h numbers s) (map (birth_at (starts_of h)) (take n numbers))
+-- the first line, and those of these births
+abbrev pub lines_of : HeapView → Value → List ℕ → State → List ℕ → List ℕ
+lines_of h v numbers s births =
+    codes "= " ++ value_text (map (birth_at (starts_of h)) numbers) (read (starts_of h) v) ++ 10 ∷ []
+    ++ flat_map (line_of h numbers s) births
 
-pub wrote_none : (h : HeapView) (numbers old : List ℕ) → Wrote h numbers old old 0
-wrote_none h numbers old s stands = sym (append-nil old)
+-- the text has the lines of the first n objects, whatever objects are given numbers behind these
+abbrev pub Wrote : HeapView → Value → List ℕ → List ℕ → List ℕ → ℕ → Type 0
+Wrote h v numbers old text n =
+    (s : State) → Stands h s → (more : List ℕ) → AllByRecursion (IsReference (starts_of h)) more
+    → text ≡ old ++ lines_of h v (numbers ++ more) s (map (birth_at (starts_of h)) (take n numbers))
 
-pub wrote_on : (h : HeapView) (numbers old before after : List ℕ) (n w a : ℕ) → IsValid h → AllByRecursion (IsReference (starts_of h)) numbers →
-    slice_get numbers n ≡ Some w → value_of w ≡ Some (object a) → Wrote h numbers old before n →
-    ((x : Start) (cells : List ℕ) (queue : Queue) → starts_of h a ≡ Some x → HasQueue (starts_of h) a x cells queue → after ≡ before ++ line_text (starts_of h) numbers a x cells) →
-    Wrote h numbers old after (n + 1)
-wrote_on h numbers old before after n w a valid refer found at wrote line s stands = by (starts_of h a) refl there
+-- A print that has come so far: so many objects were gone through, and their lines are there.
+pub record Printing (h : HeapView) (v : Value) (numbers old text : List ℕ) (n : ℕ) : Type 0 where
+  pub went : Went h v numbers n
+  pub wrote : Wrote h v numbers old text n
+  pub kept : GoesOn old text
+
+all_append : (P : ℕ → Type 0) (xs ys : List ℕ) → AllByRecursion P xs → AllByRecursion P ys → AllByRecursion P (xs ++ ys)
+all_append P [] ys h k = k
+all_append P (x ∷ xs) ys h k = (h.0, all_append P xs ys h.1 k)
+
+all_behind : (P : ℕ → Type 0) (xs ys : List ℕ) → AllByRecursion P (xs ++ ys) → AllByRecursion P ys
+all_behind P [] ys h = h
+all_behind P (x ∷ xs) ys h = all_behind P xs ys h.1
+
+named_there : (f : Starts) (v : Value) → ((a : ℕ) → v ≡ object a → IsAddress a) → ((a : ℕ) → v ≡ object a → IsTrue (is_object (f a))) → IsNamed f (by_word v)
+named_there f (object a) small there = named_place f a (value_of-word_of (object a) (small a refl)) (there a refl)
+named_there f (Fixnum n) small there = tt
+named_there f Nil small there = tt
+named_there f True small there = tt
+named_there f False small there = tt
+named_there f Bwp small there = tt
+
+-- after the first line
+pub printing_first : (h : HeapView) (v : Value) (numbers old line text : List ℕ) → IsValid h →
+    ((a : ℕ) → v ≡ object a → IsAddress a) → ((a : ℕ) → v ≡ object a → IsTrue (is_object (starts_of h a))) →
+    numbers ≡ fold with_number [] (objects_in (by_word v ∷ [])) →
+    ((more : List ℕ) → line ≡ codes "= " ++ value_text (numbers ++ more) (by_word v) ++ 10 ∷ []) →
+    text ≡ old ++ line → Printing h v numbers old text 0
+printing_first h v numbers old line text valid small there is first wrote = record {
+  went = went;
+  wrote = λ s stands more all.
+      let ns = numbers ++ more in
+      let value : value_text (map (birth_at (starts_of h)) ns) (read (starts_of h) v) ≡ value_text ns (by_word v) =
+      ap (value_text (map (birth_at (starts_of h)) ns)) (read-renamed (starts_of h) v)
+      ∙ value_text-renamed (starts_of h) valid.stands.closed ns (all_append (IsReference (starts_of h)) numbers more went.refer all) (by_word v) (named_there (starts_of h) v small there) in
+      wrote ∙ ap (λ (t : List ℕ). old ++ t) (first more ∙ ap (λ (t : List ℕ). codes "= " ++ t ++ 10 ∷ []) (sym value) ∙ sym (append-nil _));
+  kept = (line, wrote);
+}
   where
-    r : IsReference (starts_of h) w
-    r = all_at (IsReference (starts_of h)) numbers n w refer found
+    went : Went h v numbers 0
+    went = subst (λ ns. Went h v ns 0) (sym is) (started h v small there)
 
-    same : w / 8 ≡ a
-    same = same_place (starts_of h) w a r at
+module _ (h : HeapView) (v : Value) (numbers old text : List ℕ) (n w a : ℕ) (so_far : Printing h v numbers old text n) (found : slice_get numbers n ≡ Some w) (at : value_of w ≡ Some (object a)) (valid : IsValid h) (after new : List ℕ)
+    (step : (x : Start) (cells : List ℕ) (queue : Queue) → starts_of h a ≡ Some x → HasQueue (starts_of h) a x cells queue → after ≡ with_words numbers (shown_words (starts_of h) x cells))
+    (line : (x : Start) (cells : List ℕ) (queue : Queue) → starts_of h a ≡ Some x → HasQueue (starts_of h) a x cells queue → (more : List ℕ) → new ≡ text ++ line_text (starts_of h) (after ++ more) n a x cells) where
+  f : Starts
+  f = starts_of h
 
-    there : IsTrue (is_object (starts_of h a))
-    there = subst (λ b. IsTrue (is_object (starts_of h b))) same r.there
+  went_now : Went h v after (n + 1)
+  went_now = went_on h v numbers n w a so_far.went found at valid after step
 
-    refers : IsReference (starts_of h) (reference a)
-    refers = subst (IsReference (starts_of h)) (r.form ∙ ap reference same) r
+  there_now : IsTrue (is_object (starts_of h a))
+  there_now = object_there h v numbers n w a so_far.went found at
 
-    by : (o : Option Start) → starts_of h a ≡ o → IsTrue (is_object o) → after ≡ old ++ flat_map (line_of h numbers s) (map (birth_at (starts_of h)) (take (n + 1) numbers))
-    by None e is = absurd (false≢true is)
-    by (Some x) e is =
-        let here = stands.graph.objects a x e (no_cell_there x is) in
-        let birth : birth_at (starts_of h) w ≡ x.birth = ap (λ b. birth_of (starts_of h b)) same ∙ ap birth_of e in
-        let shown : line_of h numbers s (birth_at (starts_of h) w) ≡ line_text (starts_of h) numbers a x here.cells =
-        ap (line_of h numbers s) birth ∙ ap (object_line (map (birth_at (starts_of h)) numbers) x.birth) here.found
-        ∙ line_shown (starts_of h) s.graph a x here stands.closed e is refers numbers refer in
-        let more : take (n + 1) numbers ≡ take n numbers ++ w ∷ [] = take_more numbers n 0 (slice_get_within numbers n w found) ∙ ap (λ z. take n numbers ++ z ∷ []) (get_or_from_slice_get numbers n w 0 found) in
-        line x here.cells here.queue e here.has_queue
-        ∙ ap (λ (t : List ℕ). t ++ line_text (starts_of h) numbers a x here.cells) (wrote s stands)
-        ∙ append_assoc old (flat_map (line_of h numbers s) (map (birth_at (starts_of h)) (take n numbers))) (line_text (starts_of h) numbers a x here.cells)
-        ∙ ap (λ (t : List ℕ). old ++ (flat_map (line_of h numbers s) (map (birth_at (starts_of h)) (take n numbers)) ++ t)) (sym (append-nil (line_of h numbers s (birth_at (starts_of h) w)) ∙ shown))
-        ∙ ap (λ (t : List ℕ). old ++ t) (sym (flat_map-append (line_of h numbers s) (map (birth_at (starts_of h)) (take n numbers)) (birth_at (starts_of h) w ∷ [])))
-        ∙ ap (λ (bs : List ℕ). old ++ flat_map (line_of h numbers s) bs) (sym (ap (map (birth_at (starts_of h))) more ∙ map-append (birth_at (starts_of h)) (take n numbers) (w ∷ [])))
+  wrote_from : (o : Option Start) → starts_of h a ≡ o → IsTrue (is_object o) → Wrote h v after old new (n + 1)
+  wrote_from None e is s stands more all = absurd (false≢true is)
+  wrote_from (Some x) e is s stands more all =
+      let here = stands.graph.objects a x e (no_cell_there x is) in
+      let grew = grown (objects_in (map word_value (shown_words (starts_of h) x here.cells))) numbers in
+      let longer : after ≡ numbers ++ grew.0 = step x here.cells here.queue e here.has_queue ∙ grew.1 in
+      let whole : numbers ++ (grew.0 ++ more) ≡ after ++ more = sym (append_assoc numbers grew.0 more) ∙ ap (λ (ns : List ℕ). ns ++ more) (sym longer) in
+      let behind : AllByRecursion (IsReference (starts_of h)) (grew.0 ++ more) =
+      all_append (IsReference (starts_of h)) grew.0 more (all_behind (IsReference (starts_of h)) numbers grew.0 (subst (AllByRecursion (IsReference (starts_of h))) longer went_now.refer)) all in
+      let refer = all_append (IsReference (starts_of h)) after more went_now.refer all in
+      let birth : birth_at (starts_of h) w ≡ x.birth = ap (λ b. birth_of (starts_of h b)) (place_is h v numbers n w a so_far.went found at) ∙ ap birth_of e in
+      let births = map (birth_at (starts_of h)) numbers in
+      let born : slice_get births n ≡ Some x.birth =
+      slice_get-map (birth_at (starts_of h)) numbers n ∙ ap (option_map (birth_at (starts_of h))) found ∙ ap (λ b. Some b) birth in
+      let apart : IsDistinct eqb births = subst (IsDistinct eqb) (sym (so_far.went.so_far s stands)) (distinct s.graph (read (starts_of h) v) n) in
+      let number : number_of (map (birth_at (starts_of h)) (after ++ more)) x.birth ≡ n =
+      ap (λ (bs : List ℕ). number_of bs x.birth) (ap (map (birth_at (starts_of h))) (sym whole) ∙ map-append (birth_at (starts_of h)) numbers (grew.0 ++ more))
+      ∙ number_at births n x.birth (map (birth_at (starts_of h)) (grew.0 ++ more)) apart born in
+      let shown : line_of h (after ++ more) s (birth_at (starts_of h) w) ≡ line_text (starts_of h) (after ++ more) n a x here.cells =
+      ap (line_of h (after ++ more) s) birth ∙ ap (object_line (map (birth_at (starts_of h)) (after ++ more)) x.birth) here.found
+      ∙ line_shown (starts_of h) s.graph a x here stands.closed e is (after ++ more) refer n number in
+      let within = slice_get_within numbers n w found in
+      let one : take (n + 1) after ≡ take n numbers ++ w ∷ [] =
+      ap (take (n + 1)) longer ∙ take-append-le (n + 1) numbers grew.0 (omega arith)
+      ∙ take_more numbers n 0 within ∙ ap (λ z. take n numbers ++ z ∷ []) (get_or_from_slice_get numbers n w 0 found) in
+      let before = map (birth_at (starts_of h)) (take n numbers) in
+      let first = codes "= " ++ value_text (map (birth_at (starts_of h)) (after ++ more)) (read (starts_of h) v) ++ 10 ∷ [] in
+      line x here.cells here.queue e here.has_queue more
+      ∙ ap (λ (t : List ℕ). t ++ line_text (starts_of h) (after ++ more) n a x here.cells) (so_far.wrote s stands (grew.0 ++ more) behind ∙ ap (λ ns. old ++ lines_of h v ns s before) whole)
+      ∙ ap (λ (t : List ℕ). (old ++ (first ++ flat_map (line_of h (after ++ more) s) before)) ++ t) (sym (append-nil (line_of h (after ++ more) s (birth_at (starts_of h) w)) ∙ shown))
+      ∙ append_assoc old (first ++ flat_map (line_of h (after ++ more) s) before) _
+      ∙ ap (λ (t : List ℕ). old ++ t) (append_assoc first (flat_map (line_of h (after ++ more) s) before) _)
+      ∙ ap (λ (t : List ℕ). old ++ (first ++ t)) (sym (flat_map-append (line_of h (after ++ more) s) before (birth_at (starts_of h) w ∷ [])))
+      ∙ ap (λ (bs : List ℕ). old ++ (first ++ flat_map (line_of h (after ++ more) s) bs)) (sym (ap (map (birth_at (starts_of h))) one ∙ map-append (birth_at (starts_of h)) (take n numbers) (w ∷ [])))
 
-pub wrote_all : (h : HeapView) (numbers old text : List ℕ) (n : ℕ) → length numbers ≤ n → Wrote h numbers old text n →
-    (s : State) → Stands h s → text ≡ old ++ flat_map (line_of h numbers s) (map (birth_at (starts_of h)) numbers)
-wrote_all h numbers old text n done wrote s stands =
-    wrote s stands ∙ ap (λ (ws : List ℕ). old ++ flat_map (line_of h numbers s) (map (birth_at (starts_of h)) ws)) (take_all n numbers done)
+  -- one line more
+  pub printing_on : GoesOn text new → Printing h v after old new (n + 1)
+  printing_on more = record {
+    went = went_now;
+    wrote = wrote_from (starts_of h a) refl there_now;
+    kept = goes_further old text new so_far.kept more;
+  }
 
 -- a number of a print has its object
 pub never_none : (h : HeapView) (numbers : List ℕ) (n : ℕ) → AllByRecursion (IsReference (starts_of h)) numbers → n < length numbers →
@@ -206,35 +271,14 @@ never_none h numbers n refer within none =
 
 -- ---- the whole text
 
-named_there : (f : Starts) (v : Value) → ((a : ℕ) → v ≡ object a → IsAddress a) → ((a : ℕ) → v ≡ object a → IsTrue (is_object (f a))) → IsNamed f (by_word v)
-named_there f (object a) small there = named_place f a (value_of-word_of (object a) (small a refl)) (there a refl)
-named_there f (Fixnum n) small there = tt
-named_there f Nil small there = tt
-named_there f True small there = tt
-named_there f False small there = tt
-named_there f Bwp small there = tt
-
-in_order : (old a b c rest : List ℕ) → (((old ++ a) ++ b) ++ c) ++ rest ≡ old ++ (((a ++ b) ++ c) ++ rest)
-in_order old a b c rest =
-    ap (λ (t : List ℕ). (t ++ c) ++ rest) (append_assoc old a b)
-    ∙ ap (λ (t : List ℕ). t ++ rest) (append_assoc old (a ++ b) c) ∙ append_assoc old ((a ++ b) ++ c) rest
-
-pub graph_text : (h : HeapView) (v : Value) (numbers : List ℕ) → IsValid h → AllByRecursion (IsReference (starts_of h)) numbers →
-    ((a : ℕ) → v ≡ object a → IsAddress a) → ((a : ℕ) → v ≡ object a → IsTrue (is_object (starts_of h a))) →
-    ((s : State) → Stands h s → map (birth_at (starts_of h)) numbers ≡ numbering s.graph (read (starts_of h) v)) →
-    (old begun shown line text : List ℕ) → begun ≡ old ++ codes "= " → shown ≡ begun ++ value_text numbers (by_word v) → line ≡ shown ++ 10 ∷ [] →
-    ((s : State) → Stands h s → text ≡ line ++ flat_map (line_of h numbers s) (map (birth_at (starts_of h)) numbers)) →
+pub printing_all : (h : HeapView) (v : Value) (numbers old text : List ℕ) (n : ℕ) → Printing h v numbers old text n → length numbers ≤ n →
+    ((a : ℕ) → v ≡ object a → IsTrue (is_object (starts_of h a))) →
     (s : State) → Stands h s → text ≡ old ++ print_text s.graph (read (starts_of h) v)
 unfolding print_text
-graph_text h v numbers valid refer small there all old begun shown line text is_begun is_shown is_line lines s stands =
-    let f = starts_of h in
-    let births = map (birth_at f) numbers in
-    let rest = flat_map (line_of h numbers s) births in
-    let value : value_text births (read f v) ≡ value_text numbers (by_word v) =
-    ap (value_text births) (read-renamed f v) ∙ value_text-renamed f valid.stands.closed numbers refer (by_word v) (named_there f v small there) in
-    let whole : List ℕ → List ℕ = λ ns. codes "= " ++ value_text ns (read f v) ++ 10 ∷ [] ++ flat_map (λ birth. object_line ns birth (object_at s.graph birth)) ns in
-    lines s stands
-    ∙ ap (λ (t : List ℕ). t ++ rest) (is_line ∙ ap (λ (t : List ℕ). t ++ 10 ∷ []) (is_shown ∙ ap (λ (t : List ℕ). t ++ value_text numbers (by_word v)) is_begun))
-    ∙ in_order old (codes "= ") (value_text numbers (by_word v)) (10 ∷ []) rest
-    ∙ ap (λ (t : List ℕ). old ++ (((codes "= " ++ t) ++ 10 ∷ []) ++ rest)) (sym value)
-    ∙ ap (λ (ns : List ℕ). old ++ whole ns) (all s stands)
+printing_all h v numbers old text n so_far done there s stands =
+    let births = map (birth_at (starts_of h)) numbers in
+    let whole : List ℕ → List ℕ → List ℕ = λ ns bs. codes "= " ++ value_text ns (read (starts_of h) v) ++ 10 ∷ [] ++ flat_map (λ birth. object_line ns birth (object_at s.graph birth)) bs in
+    so_far.wrote s stands [] tt
+    ∙ ap (λ (ns : List ℕ). old ++ whole (map (birth_at (starts_of h)) ns) (map (birth_at (starts_of h)) (take n numbers))) (append-nil numbers)
+    ∙ ap (λ (ns : List ℕ). old ++ whole births (map (birth_at (starts_of h)) ns)) (take_all n numbers done)
+    ∙ ap (λ (ns : List ℕ). old ++ whole ns ns) (went_all h v numbers n so_far.went done there s stands)

@@ -1,3 +1,6 @@
+pub mod Visited
+pub mod Noted
+pub mod Shown
 pub mod Numbering
 pub mod Renamed
 pub mod Reading

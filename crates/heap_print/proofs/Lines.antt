@@ -1,18 +1,18 @@
 -- The line of an object of the heap is its line in the graph.
-use Rattle.std.proofs.Common.{◌≡◌, ℕ, ◌/◌, pos, decimal, codes, cond, Bool, List, [], ◌∷◌, ◌++◌, map, flat_map, Option, Some, IsTrue, true, false, refl, sym, ap, ◌∙◌}
+use Rattle.std.proofs.Common.{◌≡◌, ℕ, pos, decimal, codes, cond, Bool, List, [], ◌∷◌, ◌++◌, map, flat_map, Some, IsTrue, true, false, refl, sym, ap, ◌∙◌}
 use Rattle.std.specs.List.{AllByRecursion}
 use Rattle.trace_types.specs.declared.kind.Kind.{Kind}
 use Rattle.trace_types.specs.Words.{kind_word}
 use Rattle.trace_types.specs.Values as values
 use Rattle.trace_types.specs.Values.{Object, is_guardian, has_bytes}
-use Rattle.trace_types.specs.Printing.{contents, content_text, value_text, generation_word, object_line}
+use Rattle.trace_types.specs.Printing.{contents, content_text, number_of, generation_word, object_line}
 use Rattle.gc_words.specs.Layout.{thread_of}
 use Rattle.segment.specs.Segments.{Start}
-use Rattle.heap_store.specs.Starts.{Starts, is_object, birth_of, read_word, object_of, IsWordThere, IsClosed, bytes_of}
+use Rattle.heap_store.specs.Starts.{Starts, is_object, read_word, object_of, IsWordThere, IsClosed, bytes_of}
 use Rattle.heap_store.specs.Graphs.{IsInGraph}
-use Rattle.heap_print.specs.Words.{reference, word_value, birth_at, renamed, IsReference, shown_words}
+use Rattle.heap_print.specs.Words.{word_value, birth_at, renamed, IsReference, shown_words}
 use Rattle.heap_print.specs.Lines.{word_text, spaced_byte, shown_text, line_text}
-use Rattle.heap_print.proofs.Reading.{read_words-renamed, value_text-renamed, named_word, place_of_reference}
+use Rattle.heap_print.proofs.Reading.{read_words-renamed, value_text-renamed, named_word}
 use Rattle.heap_print.proofs.Printed.{contents_read, shown_there, no_guardian}
 
 bytes_text : (numbers bytes : List ℕ) (k : Kind) → has_bytes k ≡ true →
@@ -46,18 +46,12 @@ text_shown f a x closed cells queue numbers all there read = by (has_bytes x.kin
         ∙ ap (λ b. cond b (flat_map spaced_byte (bytes_of x.words x.length)) (flat_map (word_text numbers) (shown_words f x cells))) (sym e)
 
 pub line_shown : (f : Starts) (graph : values.Graph) (a : ℕ) (x : Start) (g : IsInGraph f graph a x) → IsClosed f → f a ≡ Some x → IsTrue (is_object (Some x)) →
-    IsReference f (reference a) →
-    (numbers : List ℕ) → AllByRecursion (IsReference f) numbers →
-    object_line (map (birth_at f) numbers) x.birth (Some (object_of f a x g.queue)) ≡ line_text f numbers a x g.cells
-line_shown f graph a x g closed here object refers numbers all =
-    let words = shown_words f x g.cells in
+    (numbers : List ℕ) → AllByRecursion (IsReference f) numbers → (number : ℕ) → number_of (map (birth_at f) numbers) x.birth ≡ number →
+    object_line (map (birth_at f) numbers) x.birth (Some (object_of f a x g.queue)) ≡ line_text f numbers number a x g.cells
+line_shown f graph a x g closed here object numbers all number is =
     let there = shown_there f a x g.cells g.queue (closed.laid_out a x here) g.has_queue object in
-    let place : f (reference a / 8) ≡ Some x = ap f (place_of_reference a) ∙ here in
-    let named : value_text (map (birth_at f) numbers) (values.object x.birth) ≡ value_text numbers (values.object (reference a)) =
-    ap (λ (o : Option Start). value_text (map (birth_at f) numbers) (values.object (birth_of o))) (sym place)
-    ∙ value_text-renamed f closed numbers all (values.object (reference a)) refers in
     let shown = text_shown f a x closed g.cells g.queue numbers all there (contents_read f a x g.cells g.queue g.has_queue) in
-    let line : List ℕ → ℕ → List ℕ → List ℕ = λ number thread text.
-    number ++ codes " " ++ kind_word x.kind ++ codes " g" ++ generation_word x.generation ++ codes " t" ++ decimal thread ++ text ++ 10 ∷ [] in
-    ap (λ number. line number (thread_of a) (flat_map (content_text (map (birth_at f) numbers) x.kind) (contents (object_of f a x g.queue)))) named
-    ∙ ap (λ text. line (value_text numbers (values.object (reference a))) (thread_of a) text) shown
+    let line : ℕ → List ℕ → List ℕ = λ n text.
+    codes "#" ++ decimal n ++ codes " " ++ kind_word x.kind ++ codes " g" ++ generation_word x.generation ++ codes " t" ++ decimal (thread_of a) ++ text ++ 10 ∷ [] in
+    ap (λ n. line n (flat_map (content_text (map (birth_at f) numbers) x.kind) (contents (object_of f a x g.queue)))) is
+    ∙ ap (line number) shown

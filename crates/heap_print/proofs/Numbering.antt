@@ -52,7 +52,7 @@ object_distinct true_value = tt
 object_distinct false_value = tt
 object_distinct bwp = tt
 
-distinct : (graph : Graph) (v : Value) (n : ℕ) → IsDistinct eqb (numbered graph v n)
+pub distinct : (graph : Graph) (v : Value) (n : ℕ) → IsDistinct eqb (numbered graph v n)
 distinct graph v zero = object_distinct v
 distinct graph v (suc n) = at_distinct graph (slice_get (numbered graph v n) n) (numbered graph v n) (distinct graph v n)
 

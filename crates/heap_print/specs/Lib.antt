@@ -2,3 +2,4 @@ pub mod Words
 pub mod Lines
 pub mod Chains
 pub mod Counting
+pub mod Notes

@@ -6,8 +6,8 @@ ghost use Rattle.gc_words.specs.Layout.{IsAddress};
 ghost use Rattle.gc_words.specs.Word.{value_of};
 ghost use Rattle.heap_store.specs.Starts.{bytes_of};
 ghost use Rattle.territory.specs.Territories.{words_of as words_at};
-ghost use Rattle.heap_print.specs.Words.{with_words, first_of};
-ghost use Rattle.heap_print.specs.Lines.{word_text, spaced_byte};
+ghost use Rattle.heap_print.specs.Words.{first_of};
+ghost use Rattle.heap_print.specs.Lines.{spaced_byte, AreShown};
 ghost use Rattle.heap_print.specs.Chains.{IsChain};
 
 use crate::numbers::Numbers;
@@ -19,46 +19,10 @@ use territory::Territory;
 /// More cells than a queue can have, since each has a place of its own.
 const TOO_MANY_CELLS: u64 = 2305843009213693953;
 
-/// Gives a number to the object that a word refers to, where it refers to one that has none.
-fn number_word(numbers: &mut Numbers, word: u64) -> Result<(), AllocError>
-    ensures { OnOk result (numbers.new ≡ with_words numbers.old (word ∷ [])) }
-{
-    match decode(word) {
-        Some(Value::Object(_)) => numbers.visit(word),
-        _ => Ok(()),
-    }
-}
-
-/// Gives numbers to what the fields of an object refer to, from left to right.
-pub(crate) fn number_fields(
-    territory: &Territory,
-    at: Address,
-    count: u32,
-    numbers: &mut Numbers,
-) -> Result<(), AllocError>
-    requires { count ≡ length (words_at (get territory.now.starts at)) }
-    ensures { OnOk result (numbers.new ≡ with_words numbers.old (words_at (get territory.now.starts at))) }
-{
-    for index in 0..count {
-        number_word(numbers, territory.word(at, index))?;
-    }
-    Ok(())
-}
-
-/// Gives numbers to what words refer to, from left to right.
-pub(crate) fn number_words(words: &[u64], numbers: &mut Numbers) -> Result<(), AllocError>
-    ensures { OnOk result (numbers.new ≡ with_words numbers.old words.now) }
-{
-    for word in words {
-        number_word(numbers, *word)?;
-    }
-    Ok(())
-}
-
-/// Appends the value of a word after a space.
+/// Appends the value of a word after a space; its object is given a number where it has none.
 #[tactic(auto, unfolding(gc_words::specs::Word::value_of))]
-fn push_spaced(text: &mut Vec<u8>, numbers: &Numbers, word: u64) -> Result<(), AllocError>
-    ensures { OnOk result (text.new.items ≡ text.old.items ++ word_text numbers.now word) }
+fn push_spaced(text: &mut Vec<u8>, numbers: &mut Numbers, word: u64) -> Result<(), AllocError>
+    ensures { OnOk result (AreShown numbers.old numbers.new (word ∷ []) text.old.items text.new.items) }
 {
     push_word(text, b" ")?;
     match decode(word) {
@@ -67,17 +31,18 @@ fn push_spaced(text: &mut Vec<u8>, numbers: &Numbers, word: u64) -> Result<(), A
     }
 }
 
-/// Appends the fields of an object, each after a space.
+/// Appends the fields of an object, each after a space, and gives numbers to what they refer to, from left to
+/// right.
 pub(crate) fn push_fields(
     territory: &Territory,
     at: Address,
     count: u32,
-    numbers: &Numbers,
+    numbers: &mut Numbers,
     text: &mut Vec<u8>,
 ) -> Result<(), AllocError>
     requires { count ≡ length (words_at (get territory.now.starts at)) }
-    ensures { OnOk result (text.new.items ≡ text.old.items
-        ++ flat_map (word_text numbers.now) (words_at (get territory.now.starts at))) }
+    ensures { OnOk result (AreShown numbers.old numbers.new (words_at (get territory.now.starts at))
+        text.old.items text.new.items) }
 {
     for index in 0..count {
         push_spaced(text, numbers, territory.word(at, index))?;
@@ -98,19 +63,18 @@ pub(crate) fn push_bytes(
 {
     for index in 0..count {
         let bytes = territory.word(at, index / 8).to_le_bytes();
-        push_word(text, b" ")?;
         push_byte(text, bytes[(index % 8) as usize])?;
     }
     Ok(())
 }
 
-/// Appends the values of words, each after a space.
+/// Appends the values of words, each after a space, and gives numbers to what they refer to, from left to right.
 pub(crate) fn push_words(
     words: &[u64],
-    numbers: &Numbers,
+    numbers: &mut Numbers,
     text: &mut Vec<u8>,
 ) -> Result<(), AllocError>
-    ensures { OnOk result (text.new.items ≡ text.old.items ++ flat_map (word_text numbers.now) words.now) }
+    ensures { OnOk result (AreShown numbers.old numbers.new words.now text.old.items text.new.items) }
 {
     for word in words {
         push_spaced(text, numbers, *word)?;

@@ -1,4 +1,4 @@
-//! Going through one object of a heap: giving numbers to what it refers to, and printing its line.
+//! Printing the line of one object of a heap, which gives numbers to what it refers to.
 
 ghost use Rattle.std.specs.Prelude.{◌≡◌, ◌++◌, ◌↔◌, ℕ, List, false, Some, IsTrue, IsSome, IfSome, IfOk, OnOk};
 ghost use Rattle.std.specs.FinMap.{get};
@@ -7,15 +7,13 @@ ghost use Rattle.segment.specs.Segments.{Start};
 ghost use Rattle.heap_store.specs.HeapView.{starts_of};
 ghost use Rattle.heap_store.specs.Queues.{Queue, HasQueue};
 ghost use Rattle.heap_store.specs.Starts.{is_object};
-ghost use Rattle.heap_print.specs.Words.{reference, shown_words, with_words};
+ghost use Rattle.heap_print.specs.Words.{shown_words, with_words};
 ghost use Rattle.heap_print.specs.Lines.{shown_text, head_text, line_text};
 
-use crate::contents::{
-    number_fields, number_words, push_bytes, push_fields, push_words, queue_words,
-};
+use crate::contents::{push_bytes, push_fields, push_words, queue_words};
 use crate::numbers::Numbers;
-use crate::text::{push_generation, push_number, push_value, push_word};
-use gc_words::{Address, Value};
+use crate::text::{push_generation, push_number, push_word};
+use gc_words::Address;
 use heap_store::Heap;
 use std::alloc::{AllocError, Global};
 use territory::Territory;
@@ -63,40 +61,23 @@ fn queue_of(alloc: Global, heap: &Heap, at: Address) -> Result<Vec<u64>, AllocEr
     Ok(words)
 }
 
-/// Gives numbers to what an object refers to, from left to right.
-pub(crate) fn number_object(
-    alloc: Global,
-    heap: &Heap,
-    at: Address,
-    numbers: &mut Numbers,
-) -> Result<(), AllocError>
-    requires alive { heap.now.failed ≡ false }
-    requires there { IsTrue (is_object (starts_of heap.now at)) }
-    ensures { OnOk result ((x : Start) (cells : List ℕ) (queue : Queue) → starts_of heap.now at ≡ Some x
-        → HasQueue (starts_of heap.now) at x cells queue
-        → numbers.new ≡ with_words numbers.old (shown_words (starts_of heap.now) x cells)) }
-{
-    let territory = heap.territory(at.thread());
-    match Contents::of(territory.kind(at)) {
-        Contents::Fields => number_fields(territory, at, territory.length(at), numbers),
-        Contents::Bytes => Ok(()),
-        Contents::Queue => number_words(&queue_of(alloc, heap, at)?, numbers),
-    }
-}
-
-/// Appends what is printed of an object behind its thread, each after a space.
+/// Appends what is printed of an object behind its thread, each after a space, and gives numbers to what it
+/// refers to, from left to right.
 fn push_contents(
     alloc: Global,
     heap: &Heap,
     at: Address,
-    numbers: &Numbers,
+    numbers: &mut Numbers,
     text: &mut Vec<u8>,
 ) -> Result<(), AllocError>
     requires alive { heap.now.failed ≡ false }
     requires there { IsTrue (is_object (starts_of heap.now at)) }
-    ensures { OnOk result ((x : Start) (cells : List ℕ) (queue : Queue) → starts_of heap.now at ≡ Some x
+    ensures numbers { OnOk result ((x : Start) (cells : List ℕ) (queue : Queue) → starts_of heap.now at ≡ Some x
         → HasQueue (starts_of heap.now) at x cells queue
-        → text.new.items ≡ text.old.items ++ shown_text (starts_of heap.now) numbers.now x cells) }
+        → numbers.new ≡ with_words numbers.old (shown_words (starts_of heap.now) x cells)) }
+    ensures text { OnOk result ((x : Start) (cells : List ℕ) (queue : Queue) → starts_of heap.now at ≡ Some x
+        → HasQueue (starts_of heap.now) at x cells queue → (more : List ℕ)
+        → text.new.items ≡ text.old.items ++ shown_text (starts_of heap.now) (numbers.new ++ more) x cells) }
 {
     let territory = heap.territory(at.thread());
     let length = territory.length(at);
@@ -111,16 +92,17 @@ fn push_contents(
 fn push_head(
     territory: &Territory,
     at: Address,
-    numbers: &Numbers,
+    number: usize,
     text: &mut Vec<u8>,
 ) -> Result<(), AllocError>
     requires { IsSome (get territory.now.starts at) }
     ensures { OnOk result (IfSome (get territory.now.starts at) (λ x.
-        text.new.items ≡ text.old.items ++ head_text numbers.now at x.kind x.generation)) }
+        text.new.items ≡ text.old.items ++ head_text number at x.kind x.generation)) }
 {
     let kind = territory.kind(at);
     let generation = territory.generation(at);
-    push_value(text, numbers, Value::Object(at))?;
+    push_word(text, b"#")?;
+    push_number(text, number as u64)?;
     push_word(text, b" ")?;
     push_word(text, kind.word().as_bytes())?;
     push_word(text, b" g")?;
@@ -129,21 +111,27 @@ fn push_head(
     push_number(text, u64::from(at.thread()))
 }
 
-/// Appends the line of an object.
+/// Appends the line of an object with this number, and gives numbers to what it refers to, from left to right.
 pub(crate) fn push_object(
     alloc: Global,
     heap: &Heap,
     at: Address,
-    numbers: &Numbers,
+    number: usize,
+    numbers: &mut Numbers,
     text: &mut Vec<u8>,
 ) -> Result<(), AllocError>
     requires alive { heap.now.failed ≡ false }
     requires there { IsTrue (is_object (starts_of heap.now at)) }
-    ensures { OnOk result ((x : Start) (cells : List ℕ) (queue : Queue) → starts_of heap.now at ≡ Some x
+    ensures numbers { OnOk result ((x : Start) (cells : List ℕ) (queue : Queue) → starts_of heap.now at ≡ Some x
         → HasQueue (starts_of heap.now) at x cells queue
-        → text.new.items ≡ text.old.items ++ line_text (starts_of heap.now) numbers.now at x cells) }
+        → numbers.new ≡ with_words numbers.old (shown_words (starts_of heap.now) x cells)) }
+    ensures text { OnOk result ((x : Start) (cells : List ℕ) (queue : Queue) → starts_of heap.now at ≡ Some x
+        → HasQueue (starts_of heap.now) at x cells queue → (more : List ℕ)
+        → text.new.items
+        ≡ text.old.items ++ line_text (starts_of heap.now) (numbers.new ++ more) number at x cells) }
 {
-    push_head(heap.territory(at.thread()), at, numbers, text)?;
+    push_head(heap.territory(at.thread()), at, number, text)?;
     push_contents(alloc, heap, at, numbers, text)?;
-    push_word(text, b"\n")
+    push_word(text, b"\n")?;
+    Ok(())
 }

@@ -1,24 +1,25 @@
 //! The printed graph of a value.
 
-ghost use Rattle.std.specs.Prelude.{◌≡◌, ◌≢◌, ◌↔◌, ◌++◌, ◌∷◌, [], ℕ, List, true, false, map, flat_map, slice_get, Some, IsTrue, IfSome, IfNone, IfOk, OnOk, OnErr, Err};
-ghost use Rattle.std.specs.Option.{option_map};
-ghost use Rattle.std.specs.List.{AllByRecursion};
+ghost use Rattle.std.specs.Prelude.{◌≡◌, ◌≢◌, ◌↔◌, ◌++◌, ◌∷◌, [], ℕ, List, true, false, codes, fold, slice_get, Some, IsTrue, IfSome, IfNone, OnOk, OnErr, Err};
 ghost use Rattle.trace_types.specs.States.{State, operand_value};
-ghost use Rattle.trace_types.specs.Printing.{numbering, object_line, print_text};
-ghost use Rattle.trace_types.specs.Values.{object_at};
+ghost use Rattle.trace_types.specs.Values.{objects_in};
+ghost use Rattle.trace_types.specs.Printing.{with_number, value_text, print_text};
 ghost use Rattle.gc_words.specs.Layout.{IsAddress};
 ghost use Rattle.gc_words.specs.Word.{value_of};
+ghost use Rattle.segment.specs.Segments.{Start};
 ghost use Rattle.heap_store.specs.HeapView.{starts_of};
 ghost use Rattle.heap_store.specs.Starts.{is_object, read};
+ghost use Rattle.heap_store.specs.Queues.{Queue, HasQueue};
 ghost use Rattle.heap_store.specs.Calls.{IsValid};
 ghost use Rattle.heap_store.specs.Stands.{Stands};
-ghost use Rattle.heap_print.specs.Words.{IsReference, reference, birth_at};
+ghost use Rattle.heap_print.specs.Words.{by_word, shown_words, with_words};
+ghost use Rattle.heap_print.specs.Lines.{line_text, GoesOn};
 
 use crate::contents::referred;
 use crate::numbers::Numbers;
-use crate::objects::{number_object, push_object};
+use crate::objects::push_object;
 use crate::text::{push_value, push_word};
-use gc_words::{Address, Value, encode};
+use gc_words::{Address, Value};
 use heap_store::{Heap, HeapError};
 use std::alloc::{AllocError, Global};
 use trace_types::{Fault, Operand};
@@ -36,66 +37,50 @@ fn numbered(numbers: &Numbers, number: usize) -> Option<Address>
     }
 }
 
-/// Gives a number to the object that a value is, where it is one.
-fn number_value(numbers: &mut Numbers, value: &Value) -> Result<(), AllocError>
-    requires { numbers.old ≡ [] }
-    ensures object { OnOk result ((a : ℕ) → value.now ≡ Value.Object a → numbers.new ≡ reference a ∷ []) }
-    ensures other { OnOk result (((a : ℕ) → value.now ≢ Value.Object a) → numbers.new ≡ []) }
-    ensures address { (a : ℕ) → value.now ≡ Value.Object a → IsAddress a }
+/// Appends the first line: the value, whose object is given number 0.
+fn push_first(value: &Value, numbers: &mut Numbers, text: &mut Vec<u8>) -> Result<(), AllocError>
+    ensures numbers { OnOk result (numbers.new
+        ≡ fold with_number numbers.old (objects_in (by_word value.now ∷ []))) }
+    ensures text { OnOk result ((more : List ℕ) → text.new.items
+        ≡ text.old.items ++ codes "= " ++ value_text (numbers.new ++ more) (by_word value.now) ++ 10 ∷ []) }
+    ensures address { OnOk result ((a : ℕ) → value.now ≡ Value.Object a → IsAddress a) }
 {
-    match value {
-        Value::Object(at) => numbers.visit(encode(Value::Object(*at))),
-        _ => Ok(()),
-    }
-}
-
-/// The objects that a print of a value shows, by number.
-fn number_all(alloc: Global, heap: &Heap, value: &Value) -> Result<Numbers, AllocError>
-    requires alive { heap.now.failed ≡ false }
-    requires valid { IsValid heap.now }
-    requires there { (a : ℕ) → value.now ≡ Value.Object a → IsTrue (is_object (starts_of heap.now a)) }
-    ensures refer { IfOk result (λ numbers. AllByRecursion (IsReference (starts_of heap.now)) numbers) }
-    ensures numbers { IfOk result (λ numbers. (s : State) → Stands heap.now s
-        → map (birth_at (starts_of heap.now)) numbers ≡ numbering s.graph (read (starts_of heap.now) value.now)) }
-    ensures address { (a : ℕ) → value.now ≡ Value.Object a → IsAddress a }
-{
-    let mut numbers = Numbers::new(alloc);
-    number_value(&mut numbers, value)?;
-    let mut number = 0;
-    while number < numbers.count() {
-        match numbered(&numbers, number) {
-            Some(at) => number_object(alloc, heap, at, &mut numbers)?,
-            None => return Ok(numbers),
-        }
-        number += 1;
-    }
-    Ok(numbers)
-}
-
-/// Appends the line of each object that has a number.
-fn push_objects(
-    alloc: Global,
-    heap: &Heap,
-    numbers: &Numbers,
-    text: &mut Vec<u8>,
-) -> Result<(), AllocError>
-    requires alive { heap.now.failed ≡ false }
-    requires valid { IsValid heap.now }
-    requires refer { AllByRecursion (IsReference (starts_of heap.now)) numbers.now }
-    ensures { OnOk result ((s : State) → Stands heap.now s
-        → let births = map (birth_at (starts_of heap.now)) numbers.now in text.new.items ≡ text.old.items
-        ++ flat_map (λ birth. object_line births birth (object_at s.graph birth)) births) }
-{
-    for number in 0..numbers.count() {
-        match numbered(numbers, number) {
-            Some(at) => push_object(alloc, heap, at, numbers, text)?,
-            None => return Ok(()),
-        }
-    }
+    push_word(text, b"= ")?;
+    push_value(text, numbers, *value)?;
+    push_word(text, b"\n")?;
     Ok(())
 }
 
-/// Appends the printed graph of a value, from `= ` on.
+/// Appends the line of an object with this number, and gives numbers to what it refers to, from left to right.
+/// The line is put together in `line`, so that where memory is refused nothing was appended.
+fn push_line(
+    alloc: Global,
+    heap: &Heap,
+    at: Address,
+    number: usize,
+    numbers: &mut Numbers,
+    line: &mut Vec<u8>,
+    text: &mut Vec<u8>,
+) -> Result<(), AllocError>
+    requires alive { heap.now.failed ≡ false }
+    requires there { IsTrue (is_object (starts_of heap.now at)) }
+    ensures numbers { OnOk result ((x : Start) (cells : List ℕ) (queue : Queue) → starts_of heap.now at ≡ Some x
+        → HasQueue (starts_of heap.now) at x cells queue
+        → numbers.new ≡ with_words numbers.old (shown_words (starts_of heap.now) x cells)) }
+    ensures text { OnOk result ((x : Start) (cells : List ℕ) (queue : Queue) → starts_of heap.now at ≡ Some x
+        → HasQueue (starts_of heap.now) at x cells queue → (more : List ℕ)
+        → text.new.items
+        ≡ text.old.items ++ line_text (starts_of heap.now) (numbers.new ++ more) number at x cells) }
+    ensures kept { GoesOn text.old.items text.new.items }
+{
+    line.clear();
+    push_object(alloc, heap, at, number, numbers, line)?;
+    text.extend_from_slice(line)?;
+    Ok(())
+}
+
+/// Appends the printed graph of a value: the first line, and one for each object that is reached from it.
+/// Objects are given numbers as they are come upon, so each has one before its line is printed.
 fn push_graph(
     alloc: Global,
     heap: &Heap,
@@ -105,14 +90,22 @@ fn push_graph(
     requires alive { heap.now.failed ≡ false }
     requires valid { IsValid heap.now }
     requires there { (a : ℕ) → value.now ≡ Value.Object a → IsTrue (is_object (starts_of heap.now a)) }
-    ensures { OnOk result ((s : State) → Stands heap.now s
+    ensures text { OnOk result ((s : State) → Stands heap.now s
         → text.new.items ≡ text.old.items ++ print_text s.graph (read (starts_of heap.now) value.now)) }
+    ensures kept { GoesOn text.old.items text.new.items }
 {
-    let numbers = number_all(alloc, heap, value)?;
-    push_word(text, b"= ")?;
-    push_value(text, &numbers, *value)?;
-    push_word(text, b"\n")?;
-    push_objects(alloc, heap, &numbers, text)?;
+    let mut numbers = Numbers::new(alloc);
+    let mut line = Vec::new(alloc);
+    push_first(value, &mut numbers, &mut line)?;
+    text.extend_from_slice(&line)?;
+    let mut number = 0;
+    while number < numbers.count() {
+        match numbered(&numbers, number) {
+            Some(at) => push_line(alloc, heap, at, number, &mut numbers, &mut line, text)?,
+            None => return Ok(()),
+        }
+        number += 1;
+    }
     Ok(())
 }
 
@@ -134,13 +127,12 @@ pub fn print_value(heap: &Heap, value: Operand, text: &mut Vec<u8>) -> Result<()
     }
     let value = heap.value_of(value)?;
     let alloc = *text.allocator();
-    let mut graph = Vec::new(alloc);
-    match push_graph(alloc, heap, &value, &mut graph) {
-        Ok(()) => {}
-        Err(_) => return Err(HeapError::NoMemory),
-    }
-    match text.extend_from_slice(&graph) {
+    let length = text.len();
+    match push_graph(alloc, heap, &value, text) {
         Ok(()) => Ok(()),
-        Err(_) => Err(HeapError::NoMemory),
+        Err(_) => {
+            text.truncate(length);
+            Err(HeapError::NoMemory)
+        }
     }
 }

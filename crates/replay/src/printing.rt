@@ -1,5 +1,4 @@
-// The commands that print: each builds its text before it appends it, so that where memory runs out nothing was appended,
-// and the heap has failed.
+// The commands that print: where memory runs out nothing was appended, and the heap has failed.
 ghost use Rattle.std.specs.Prelude.{◌≡◌, ◌≢◌, ◌↔◌, List, ℕ, true, Err, IfOk, IsTrue};
 ghost use Rattle.trace_types.specs.States.{State, operand_value};
 ghost use Rattle.trace_types.specs.Values.{object_of_value};

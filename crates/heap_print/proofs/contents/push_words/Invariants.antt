@@ -1,6 +1,6 @@
-use Rattle.std.proofs.Common.{◌≡◌, ◌++◌, take, flat_map}
-use Rattle.heap_print.specs.Lines.{word_text}
+use Rattle.std.proofs.Common.{take}
+use Rattle.heap_print.specs.Lines.{AreShown}
 use Rattle.heap_print.proofs.contents.push_words.Given as goal
 
 abbrev pub invariant-loop-word : goal.invariant-loop-word
-invariant-loop-word l = l.text.items ≡ l.initial.text.items ++ flat_map (word_text l.numbers) (take l.word-index l.words)
+invariant-loop-word l = AreShown l.initial.numbers l.numbers (take l.word-index l.words) l.initial.text.items l.text.items
