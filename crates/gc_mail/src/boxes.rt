@@ -97,8 +97,8 @@ impl Inbox {
         self.messages.next()
     }
 
-    /// Puts a message last. Err where memory is refused.
-    pub(crate) fn add(&mut self, message: Message) -> Result<(), AllocError>
+    /// Puts a message last, as from the sweeper itself. Err where memory is refused.
+    pub fn add(&mut self, message: Message) -> Result<(), AllocError>
         ensures { OnOk result (self.new ≡ self.old ++ message ∷ []) }
     {
         self.messages.push(message)?;

@@ -21,3 +21,4 @@ mod recipients;
 pub use boxes::{Inbox, Outbox};
 pub use delivery::exchange;
 pub use message::{Message, Slot};
+pub use recipients::holder;

@@ -7,12 +7,12 @@ use crate::message::{Message, Slot};
 use gc_words::owner_of;
 
 /// The sweeper that holds a slot. `Nothing` is held by nobody, and no message is sent to it.
-fn holder(slot: Slot, sweepers: u32) -> u32
+pub fn holder(slot: &Slot, sweepers: u32) -> u32
     requires { 0 < sweepers }
-    ensures value { result ≡ holder_of sweepers slot }
+    ensures value { result ≡ holder_of sweepers slot.now }
     ensures range { result < sweepers }
 {
-    match slot {
+    match *slot {
         Slot::Register(number) => number % sweepers,
         Slot::Field { object, .. } => owner_of(object.thread(), sweepers),
         Slot::Entry { line, .. } => line % sweepers,
@@ -30,6 +30,6 @@ pub(crate) fn recipient(message: &Message, sweepers: u32) -> u32
     match *message {
         Message::Forward { target, .. } => owner_of(target.thread(), sweepers),
         Message::Watch { key, .. } => owner_of(key.thread(), sweepers),
-        Message::Moved { back, .. } => holder(back, sweepers),
+        Message::Moved { ref back, .. } => holder(back, sweepers),
     }
 }

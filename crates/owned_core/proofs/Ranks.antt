@@ -4,7 +4,7 @@ use Rattle.std.specs.List.{list_any}
 use Rattle.std.proofs.lemmas.Bool.{or_left, or_right, eqb-true, eq-eqb, cases_Bool, both_ways, not-true, false≢true, or_parts}
 use Rattle.std.proofs.lemmas.List.Folds.{list_any-append}
 use Rattle.trace_types.specs.Rules.{has}
-use Rattle.owned_core.specs.Events.{Adds, Answer, Becomes, Deliver, Event, Fix, Forward, Learn, Sweep, after_answer, after_delivery, after_fix, after_learning, can_happen, delivered, forwarded, is_heard_keep, is_sent, may_answer, may_deliver, may_fix, may_forward, may_learn, moved, swept}
+use Rattle.owned_core.specs.Events.{Adds, Answer, Becomes, Deliver, Event, Fix, Forward, Learn, Reaches, Sweep, after_answer, after_delivery, after_fix, after_learning, can_happen, delivered, forwarded, is_heard_keep, is_sent, may_answer, may_deliver, may_fix, may_forward, may_learn, moved, swept}
 use Rattle.owned_core.specs.Invariants.{Invariant}
 use Rattle.owned_core.specs.Owned.{Entry, State, in_list, is_kept, is_there}
 use Rattle.owned_core.specs.Ranks.{Covers, Works, deliveries, message_rank, messages, object_rank, rank, slot_rank, stage_of, sum_over}
@@ -462,3 +462,44 @@ messages_are_bounded w places names covers s t es i h = (go s es i h, messages_t
         let first = one s h.0 e i h.1 h.2 in
         let rest = go h.0 es (step_holds w places s e h.0 i h.2) h.3 in
         omega (arith, split e es, first, rest)
+
+-- ---- many events
+
+module _ (w : Setting) (places : HasPlaces w) where
+  -- Events, each of which could happen or not, leave no object and no slot with more to do than before.
+  objects_stay : (s : State) (es : List Event) (t : State) → Invariant w s → Reaches w s es t → (x : ℕ)
+      → object_rank t x ≤ object_rank s x
+  objects_stay s [] t i r x = subst (λ (z : State). object_rank z x ≤ object_rank s x) (sym r) (omega arith)
+  objects_stay s (e ∷ es) t i r x =
+      let first = objects_less w s r.0 e r.1 x in
+      let rest = objects_stay r.0 es t (step_holds w places s e r.0 i r.1) r.2 x in
+      omega (arith, first, rest)
+
+  slots_stay : (s : State) (es : List Event) (t : State) → Invariant w s → Reaches w s es t → (a : Slot)
+      → left_for t a ≤ left_for s a
+  slots_stay s [] t i r a = subst (λ (z : State). left_for z a ≤ left_for s a) (sym r) (omega arith)
+  slots_stay s (e ∷ es) t i r a =
+      let first = each_less w s r.0 e i.slots_once r.1 a in
+      let rest = slots_stay r.0 es t (step_holds w places s e r.0 i r.1) r.2 a in
+      omega (arith, first, rest)
+
+  -- so the rank does not rise
+  pub rank_stays : (names : List Slot) (s : State) (es : List Event) (t : State) → Invariant w s
+      → Reaches w s es t → rank names t ≤ rank names s
+  rank_stays names s es t i r = sum_less (left_for t) (left_for s) (slots_stay s es t i r) names
+
+  -- and it falls where a slot stands at a lower stage
+  pub rank_falls : (names : List Slot) → Covers w names → (s : State) (es : List Event) (t : State)
+      → Invariant w s → Invariant w t → Reaches w s es t → (u v : Standing) → Contains s.slots u
+      → Contains t.slots v → v.slot ≡ u.slot → slot_rank (Some v.stage) < slot_rank (Some u.stage)
+      → rank names t < rank names s
+  rank_falls names covers s es t i j r u v c d same less =
+      let a : Slot = u.slot in
+      let alike : IsTrue (same_slot v.slot a) = subst (λ z. IsTrue (same_slot v.slot z)) same (same_slot_itself v.slot) in
+      let before : stage_of s.slots a ≡ Some u.stage = found s.slots i.slots_once u c a (same_slot_itself a) in
+      let after : stage_of t.slots a ≡ Some v.stage = found t.slots j.slots_once v d a alike in
+      let lower : slot_rank (stage_of t.slots a) < slot_rank (stage_of s.slots a) =
+      subst (λ g. slot_rank g < slot_rank (stage_of s.slots a)) (sym after)
+      (subst (λ g. slot_rank (Some v.stage) < slot_rank g) (sym before) less) in
+      sum_falls (left_for t) (left_for s) (slots_stay s es t i r) names a (named w names covers s i u c)
+      (omega (arith, lower, objects_stay s es t i r a.target))
