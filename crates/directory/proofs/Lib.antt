@@ -1,0 +1,7 @@
+pub mod Words
+pub mod Telling
+pub mod Walk
+pub mod Joining
+pub mod Owners
+pub mod Ranges
+pub mod Shared

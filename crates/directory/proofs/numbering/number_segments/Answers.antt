@@ -1,0 +1,18 @@
+use Rattle.std.proofs.Common.{◌+◌, ◌<◌, ◌^◌, refl, subst, ◌∙◌, ap}
+use Rattle.std.specs.Option.{SomeIff}
+use Rattle.directory.proofs.Walk.{walked_more, walked_falls, walked_all}
+use Rattle.directory.proofs.numbering.number_segments.Goals as goal
+
+pub loop-at-smaller : goal.loop-at-smaller
+loop-at-smaller c = walked_falls _ _ _ _ _ _ _ c.loop-at.invariant c.in-Some.is c.next_from-at.ensures.next
+
+pub loop-at-preserved : goal.loop-at-preserved
+loop-at-preserved c =
+    let sum = subst (λ o. SomeIff o (c.loop-at.next + c.run.result < 2 ^ 64) (c.loop-at.next + c.run.result)) c.in_ok-next.ensures.ok_part c.checked_add.ensures in
+    walked_more _ _ _ _ _ _ _ _ _
+    (record { first_word = c.loop-at.next; size = c.from_words-size.result; generation = c.from_generation.result })
+    c.loop-at.invariant c.in-Some.is c.from_words-size.ensures c.from_generation.ensures refl
+    (sum.1 ∙ ap (λ v. c.loop-at.next + v) c.run.ensures) c.in_ok-put.ensures.here c.in_ok-put.ensures.others c.next_from-at.ensures.next
+
+pub returns : goal.returns
+returns c = walked_all _ _ _ _ _ c.loop-at.invariant c.in_default.is

@@ -1,0 +1,179 @@
+//! What is collected, and which word each possible start has.
+
+ghost use Rattle.std.specs.Prelude.{◌≡◌, ◌↔◌, ℕ, ◌+◌, ◌^◌, ◌<◌, ◌≤◌, length, slice_index, Option, IfOk, IfSome, IsSome, IsTrue};
+ghost use Rattle.directory.specs.Tables.{aside_at, shown};
+ghost use Rattle.directory.specs.Directories.{from_at, from_in, owner_in, start_of, sweeper_count, target_of, word_in, AreOfThreads, HasOwnWords, HaveBegun, IsCollected, IsWithin, TellsApart};
+
+use crate::numbering::{THREADS, number_threads};
+use crate::table::{FromSegment, FromTable};
+use gc_words::Address;
+use std::alloc::{AllocError, Global};
+use std::marker::Model;
+use territory::{Targets, Territory};
+
+/// Where the territories of a collection have their from-segments, and a word for each possible start in
+/// them. Sweeper k has the objects of the threads that leave k when divided by the number of sweepers.
+#[derive(Drop)]
+pub struct Directory {
+    targets: Targets,
+    /// How many words each sweeper has.
+    ranges: Vec<usize>,
+    /// The first of them.
+    firsts: Vec<usize>,
+    /// The from-segments of each thread.
+    tables: Vec<FromTable>,
+}
+
+impl Model for Directory {
+    ghost use Rattle.directory.specs.Directories.{DirectoryView, AreTargets, IsSound};
+
+    ghost Value = { DirectoryView };
+
+    ghost view = { λ d. record { targets = d.targets; ranges = d.ranges.items; tables = d.tables.items } };
+
+    ghost invariant = { λ d. AreTargets d.targets × IsSound d.ranges.items d.firsts.items d.tables.items };
+}
+
+/// A table without from-segments for each thread.
+fn empty_tables(alloc: Global) -> Result<Vec<FromTable>, AllocError>
+    ensures { IfOk result (λ v. length v.items ≡ 64) }
+{
+    let mut tables = Vec::new(alloc);
+    for _ in 0..THREADS {
+        tables.push(FromTable::new(alloc))?;
+    }
+    Ok(tables)
+}
+
+/// The from-segment in which an address lies, by the tables of all threads.
+fn find(tables: &[FromTable], at: Address) -> Option<FromSegment>
+    requires { length tables.now ≡ 64 }
+    ensures { result ≡ from_in tables.now at }
+{
+    let from = tables[at.thread() as usize].entry(at.segment() as usize)?;
+    if at.offset() < from.size {
+        Some(from)
+    } else {
+        None
+    }
+}
+
+impl Directory {
+    /// The directory of territories that have begun a collection with these targets. Takes memory for a table
+    /// of each thread with from-segments, which is as long as the greatest of their numbers; no segment is
+    /// looked at twice.
+    pub fn new(
+        alloc: Global,
+        territories: &[Territory],
+        targets: Targets,
+        sweepers: u32,
+    ) -> Result<Directory, AllocError>
+        requires threads { AreOfThreads territories.now }
+        requires begun { HaveBegun territories.now targets }
+        requires sweepers_in { (1 ≤ sweepers) × (sweepers ≤ 64) }
+        requires least { targets.cg ≤ targets.min }
+        requires greatest { targets.min ≤ targets.max }
+        requires generations { targets.max ≤ 8 }
+        ensures targets { IfOk result (λ d. d.targets ≡ targets) }
+        ensures sweepers { IfOk result (λ d. sweeper_count d ≡ sweepers) }
+        ensures segments { IfOk result (λ d. (a : ℕ) → shown (from_at d a) ≡ aside_at territories.now a) }
+        ensures own { IfOk result HasOwnWords }
+        ensures apart { IfOk result TellsApart }
+    {
+        let mut tables = empty_tables(alloc)?;
+        let mut ranges = Vec::new(alloc);
+        let mut firsts = Vec::new(alloc);
+        let mut word = 1;
+        for sweeper in 0..sweepers {
+            let next = number_threads(alloc, territories, &mut tables, sweeper, sweepers, word)?;
+            firsts.push(word)?;
+            ranges.push(next - word)?;
+            word = next;
+        }
+        Ok(Directory {
+            targets,
+            ranges,
+            firsts,
+            tables,
+        })
+    }
+
+    /// How many sweepers there are, from 1 to 64.
+    pub fn sweepers(&self) -> u32
+        ensures value { result ≡ sweeper_count self.now }
+        ensures range { (1 ≤ result) × (result ≤ 64) }
+    {
+        self.ranges.len() as u32
+    }
+
+    /// The greatest generation that is collected.
+    pub fn cg(&self) -> u8
+        ensures value { result ≡ self.now.targets.cg }
+        ensures range { result ≤ 8 }
+    {
+        self.targets.cg
+    }
+
+    /// Whether an address lies in a from-segment. Asked of each reference that a collection looks at.
+    pub fn collected(&self, at: Address) -> bool
+        ensures { IsTrue result ↔ IsCollected self.now at }
+    {
+        find(&self.tables, at).is_some()
+    }
+
+    /// The generation of the from-segment in which an address lies.
+    pub fn generation(&self, at: Address) -> u8
+        requires { IsCollected self.now at }
+        ensures { IfSome (from_at self.now at) (λ from. result ≡ from.generation) }
+    {
+        let Some(from) = find(&self.tables, at) else {
+            unreachable!()
+        };
+        from.generation
+    }
+
+    /// Where an object of a collected generation goes: to the next generation, but at least to `min` and at
+    /// most to `max` of the targets.
+    pub fn target(&self, generation: u8) -> u8
+        requires { generation ≤ self.now.targets.cg }
+        ensures value { result ≡ target_of self.now.targets generation }
+        ensures range { result ≤ 8 }
+    {
+        let targets = self.targets;
+        (generation + 1).max(targets.min).min(targets.max)
+    }
+
+    /// The word of a collected address. It lies in its owner's range, and no two possible starts have the
+    /// same one.
+    pub fn word_of(&self, at: Address) -> usize
+        requires { IsCollected self.now at }
+        ensures value { result ≡ word_in self.now at }
+        ensures range { IsWithin self.now.ranges (owner_in self.now at) result }
+        ensures own { HasOwnWords self.now }
+        ensures apart { TellsApart self.now }
+    {
+        let Some(from) = find(&self.tables, at) else {
+            unreachable!()
+        };
+        from.word(at.offset())
+    }
+
+    /// The first word of a sweeper. Word 0 is no one's; those of sweeper 0 begin at word 1, and those of any
+    /// other after those of the sweeper before it.
+    pub fn first_word(&self, sweeper: u32) -> usize
+        requires { sweeper < sweeper_count self.now }
+        ensures { result ≡ start_of self.now.ranges sweeper }
+    {
+        self.firsts[sweeper as usize]
+    }
+
+    /// How many words a sweeper has: they are as many from its first one on.
+    pub fn range(&self, sweeper: u32) -> usize
+        requires { sweeper < sweeper_count self.now }
+        ensures value { result ≡ slice_index self.now.ranges sweeper }
+        ensures next { start_of self.now.ranges (sweeper + 1) ≡ start_of self.now.ranges sweeper + result }
+        ensures fits { start_of self.now.ranges (sweeper + 1) < 2 ^ 64 }
+    {
+        self.ranges[sweeper as usize]
+    }
+}

@@ -1,0 +1,19 @@
+//! The directory of a collection: what lies in a from-segment, and which word it has.
+//!
+//! Once each territory has begun a collection, a `Directory` tells of any address whether it is collected, of
+//! which generation, and to which generation what is kept goes. Each possible start of a from-segment has a
+//! word, a number of its own; the words of a sweeper's threads are one range, as those of a table of
+//! forwarding words are. So a sweeper finds the new place of an object by one look into a plain table.
+//!
+//! For contracts a `Directory` is its targets, its ranges and a table of from-segments for each thread.
+//! Invariant: the words of a from-segment lie in the range of its owner, and no two have a word in common.
+//! `new` alone takes memory. No call searches: a look-up is an index by thread and one by segment number.
+#![tactic(auto)]
+
+mod directory;
+mod numbering;
+#[cfg(test)]
+mod rows;
+mod table;
+
+pub use directory::Directory;
