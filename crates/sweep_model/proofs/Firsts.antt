@@ -1,0 +1,26 @@
+-- A list of numbers without its first one.
+use Rattle.std.proofs.Common.{◌≡◌, ◌≢◌, ℕ, false, not, ◌==◌, List, [], ◌∷◌, filter, cond, Contains, refl, ap, ◌∙◌}
+use Rattle.std.proofs.lemmas.Bool.{eq-eqb, eqb-true, false_from_ne_true, ne_eqb}
+use Rattle.trace_types.specs.Rules.{has}
+use Rattle.owned_core.proofs.Lists.{any_some, contains_here, contains_there}
+
+filter_out : (x : ℕ) (ys : List ℕ) → ((y : ℕ) → Contains ys y → y ≢ x) → filter (λ y. not (y == x)) ys ≡ ys
+filter_out x [] f = refl
+filter_out x (y ∷ ys) f =
+    ap (λ z. cond (not z) (y ∷ filter (λ v. not (v == x)) ys) (filter (λ v. not (v == x)) ys))
+    (ne_eqb y x (f y (contains_here y ys)))
+    ∙ ap (λ l. y ∷ l) (filter_out x ys (λ z c. f z (contains_there y ys z c)))
+
+-- a list without its first number, which is there once
+pub filter_first : (x : ℕ) (ys : List ℕ) → ((y : ℕ) → Contains ys y → y ≢ x)
+    → filter (λ y. not (y == x)) (x ∷ ys) ≡ ys
+filter_first x ys f =
+    ap (λ z. cond (not z) (x ∷ filter (λ v. not (v == x)) ys) (filter (λ v. not (v == x)) ys))
+    (eq-eqb x x refl)
+    ∙ filter_out x ys f
+
+-- what differs from each number of a list is not in it
+pub has_not : (x : ℕ) (ys : List ℕ) → ((y : ℕ) → Contains ys y → y ≢ x) → has ys x ≡ false
+has_not x ys f = false_from_ne_true (has ys x) (λ h.
+    let r = any_some (λ y. y == x) ys h in
+    f r.0 r.1 (eqb-true r.0 x r.2))

@@ -1,0 +1,22 @@
+use Rattle.std.proofs.Common.{◌≡◌, ◌-◌, Some, slice_set, sym, ap, subst, ◌∙◌}
+use Rattle.directory.specs.Directories.{DirectoryView, HasOwnWords, TellsApart, word_in}
+use Rattle.sweep_model.specs.Hands.{IsAbsent}
+use Rattle.sweep_places.specs.Places.{ArePlaces, IsOwnStart, PlacesView}
+use Rattle.sweep_places.proofs.Entries.{noted}
+use Rattle.sweep_places.proofs.places.Places.note.Goals as goal
+
+pub invariant_of-self-2 : goal.invariant_of-self-2
+invariant_of-self-2 c =
+    let same : c.args.directory.now ≡ c.self.inside.directory.value =
+    sym (ap (λ (p : PlacesView). p.directory) c.self.view_is ∙ c.requires.same) in
+    let entry : c.word_of.result ≡ word_in c.self.inside.directory.value c.args.at =
+    c.word_of.ensures.value ∙ ap (λ (d : DirectoryView). word_in d c.args.at) same in
+    subst (λ w. ArePlaces c.self.inside.directory.value c.self.inside.number c.self.inside.first
+    (slice_set c.self.inside.table.items (w - c.self.inside.first) (Some c.args.place)) c.push.new.self.items) (sym entry)
+    (subst (ArePlaces c.self.inside.directory.value c.self.inside.number c.self.inside.first
+    (slice_set c.self.inside.table.items (word_in c.self.inside.directory.value c.args.at - c.self.inside.first) (Some c.args.place)))
+    (sym c.in_ok-push.ensures.items)
+    (noted c.self.inside.directory.value c.self.inside.number c.self.inside.first c.self.inside.table.items c.self.inside.forwards.items
+    c.self.invariant (subst TellsApart same c.word_of.ensures.apart) (subst HasOwnWords same c.word_of.ensures.own) c.args.at
+    (subst (λ (p : PlacesView). IsOwnStart p.directory p.number c.args.at) (sym c.self.view_is) c.requires.own) c.args.place
+    (subst (λ (p : PlacesView). IsAbsent p.own c.args.at) (sym c.self.view_is) c.requires.absent)))

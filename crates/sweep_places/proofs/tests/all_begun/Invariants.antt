@@ -1,0 +1,10 @@
+use Rattle.std.proofs.Common.{◌≡◌, ℕ, length, Some}
+use Rattle.std.specs.List.{slice_get}
+use Rattle.territory.specs.Territories.{TerritoryView}
+use Rattle.sweep_places.proofs.tests.all_begun.Given as goal
+
+abbrev pub invariant-loop-thread : goal.invariant-loop-thread
+invariant-loop-thread l = record {
+  count : length l.territories.items ≡ l.thread;
+  each : (i : ℕ) (t : TerritoryView) → slice_get l.territories.items i ≡ Some t → (t.thread ≡ i) × (t.targets ≡ l.targets);
+}

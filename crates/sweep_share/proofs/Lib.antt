@@ -1,0 +1,6 @@
+pub mod Places
+pub mod Putting
+pub mod Copying
+pub mod Numbers
+pub mod Raising
+pub mod EachOfThem

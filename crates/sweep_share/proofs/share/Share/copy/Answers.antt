@@ -1,0 +1,33 @@
+use Rattle.std.proofs.Common.{◌≡◌, Some, slice_index_or, sym, ap, subst, ◌∙◌}
+use Rattle.std.specs.FinMap.{get}
+use Rattle.territory.specs.Territories.{TerritoryView}
+use Rattle.sweep_share.specs.Shares.{AreShareOf, IsCopied, ShareView}
+use Rattle.sweep_share.proofs.Places.{if_there, own_of, own_start, read_is, some_start}
+use Rattle.sweep_share.proofs.Copying.{is_copied}
+use Rattle.sweep_share.proofs.Putting.{with_territory}
+use Rattle.sweep_share.proofs.share.Share.copy.Goals as goal
+
+pub returns-clause-copied : goal.returns-clause-copied
+returns-clause-copied c =
+    let own = own_of c.args.self.now c.args.at c.requires.start in
+    let within = c.index-i.ensures.within in
+    let is = read_is c.args.self.now c.args.at c.index-i.result c.index_mut.result.now c.index-i.ensures.value within
+    (subst (λ (z : ShareView). c.index_mut.result.now ≡ slice_index_or z.territories c.index-i.result c.index_mut.result.now) c.self.view_is c.index_mut.ensures.value) in
+    let found = some_start _ c.requires.start in
+    let has : get c.index_mut.result.now.starts c.args.at ≡ Some found.0 =
+    ap (λ (z : TerritoryView). get z.starts c.args.at) is ∙ (sym (own_start c.args.self.now c.args.at own) ∙ found.1) in
+    subst (λ (z : ShareView). IsCopied c.args.self.now (with_territory z c.index-i.result c.copy.new.self) c.args.at c.args.generation c.in_ok-place.place)
+    (sym c.self.view_is)
+    (is_copied c.args.self.now c.args.at c.index-i.result c.args.generation c.in_ok-place.place c.index_mut.result.now c.copy.new.self
+    (subst (λ (z : ShareView). AreShareOf z.number z.sweepers z.territories) c.self.view_is c.self.invariant) c.index-i.ensures.thread
+    c.index-i.ensures.value within own is
+    (λ x e. record {
+      address = c.in_ok-place.ensures.address.0;
+      in_thread = c.in_ok-place.ensures.address.1;
+      free = c.in_ok-place.ensures.free;
+      starts = if_there _ _ x e c.in_ok-place.ensures.starts;
+      placed = if_there _ _ x e c.in_ok-place.ensures.segments;
+      sound = if_there _ _ x e c.in_ok-place.ensures.sound;
+      thread = c.in_ok-place.ensures.thread;
+      targets = c.in_ok-place.ensures.targets;
+    }) found.0 has)

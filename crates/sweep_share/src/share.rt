@@ -1,0 +1,190 @@
+//! The share of a sweeper.
+
+ghost use Rattle.std.specs.Prelude.{◌≡◌, ◌/◌, ◌%◌, ◌<◌, ◌≤◌, ◌↔◌, IfOk, IfSome, IsSome, IsTrue, length, slice_index};
+ghost use Rattle.gc_mail.specs.Recipients.{owner};
+ghost use Rattle.gc_words.specs.Layout.{thread_of};
+ghost use Rattle.territory.specs.Territories.{words_of};
+ghost use Rattle.sweep_share.specs.Shares.{AreFinished, AreRaised, AreShareOf, IsCopied, IsPut, IsRaised, start_in, territory_at, territory_of};
+
+use gc_words::{Address, owner_of};
+use std::alloc::AllocError;
+use std::marker::Model;
+use territory::Territory;
+use trace_types::Kind;
+
+/// The territories of the threads that leave `number` when divided by `sweepers`.
+#[derive(Drop)]
+pub struct Share {
+    number: u32,
+    sweepers: u32,
+    territories: Vec<Territory>,
+}
+
+impl Model for Share {
+    ghost use Rattle.sweep_share.specs.Shares.{AreShareOf, ShareView, coded_share};
+
+    ghost Value = { ShareView };
+
+    ghost coded = { coded_share };
+
+    ghost view = { λ s. record { number = s.number; sweepers = s.sweepers; territories = s.territories.items } };
+
+    ghost invariant = { λ s. AreShareOf s.number s.sweepers s.territories.items };
+}
+
+/// Raises the marks of at most `cg` in each of these.
+fn raise_all(territories: &mut Vec<Territory>, cg: u8)
+    requires { cg ≤ 8 }
+    ensures { AreRaised cg territories.old.items territories.new.items }
+{
+    for i in 0..territories.len() {
+        territories[i].raise_cards(cg);
+    }
+}
+
+/// Ends the collection in each of these, with nothing kept in place.
+fn finish_all(territories: &mut Vec<Territory>)
+    ensures { AreFinished territories.old.items territories.new.items }
+{
+    for i in 0..territories.len() {
+        territories[i].finish(&[]);
+    }
+}
+
+impl Share {
+    /// The share of these territories: those of the threads `number`, `number + sweepers` and so on, in this order.
+    pub fn new(number: u32, sweepers: u32, territories: Vec<Territory>) -> Share
+        requires { AreShareOf number sweepers territories.items }
+        ensures { result ≡ record { number = number; sweepers = sweepers; territories = territories.items } }
+    {
+        Share {
+            number,
+            sweepers,
+            territories,
+        }
+    }
+
+    /// How many territories there are.
+    pub fn len(&self) -> usize
+        ensures { result ≡ length self.now.territories }
+    {
+        self.territories.len()
+    }
+
+    /// The territory at an index.
+    pub fn territory(&self, i: usize) -> &Territory
+        requires { i < length self.now.territories }
+        ensures { result.now ≡ territory_at self.now i }
+    {
+        &self.territories[i]
+    }
+
+    /// The territory of a thread of its own.
+    pub fn of_thread(&self, thread: u8) -> &Territory
+        requires within { thread < 64 }
+        requires own { thread % self.now.sweepers ≡ self.now.number }
+        ensures value { result.now ≡ territory_at self.now (thread / self.now.sweepers) }
+        ensures thread { result.now.thread ≡ thread }
+    {
+        &self.territories[(u32::from(thread) / self.sweepers) as usize]
+    }
+
+    /// Raises the marks of at most `cg` on the cards of generations above `cg`, as each territory does.
+    pub fn raise_cards(&mut self, cg: u8)
+        requires { cg ≤ 8 }
+        ensures { IsRaised self.old self.new cg }
+    {
+        raise_all(&mut self.territories, cg);
+    }
+
+    /// The number of the sweeper.
+    pub fn number(&self) -> u32
+        ensures { result ≡ self.now.number }
+    {
+        self.number
+    }
+
+    /// Whether the address belongs to one of its threads.
+    pub fn is_own(&self, at: Address) -> bool
+        ensures { IsTrue result ↔ (owner self.now.sweepers at ≡ self.now.number) }
+    {
+        owner_of(at.thread(), self.sweepers) == self.number
+    }
+
+    /// The index of the territory of an address of its own.
+    fn index(&self, at: Address) -> usize
+        requires { owner self.now.sweepers at ≡ self.now.number }
+        ensures value { result ≡ thread_of at / self.now.sweepers }
+        ensures within { result < length self.now.territories }
+        ensures thread { thread_of at < 64 }
+    {
+        (u32::from(at.thread()) / self.sweepers) as usize
+    }
+
+    /// The territory of an address of its own.
+    fn territory_of(&self, at: Address) -> &Territory
+        requires { owner self.now.sweepers at ≡ self.now.number }
+        ensures { result.now ≡ territory_of self.now at }
+    {
+        let i = self.index(at);
+        &self.territories[i]
+    }
+
+    /// The kind of a start.
+    pub fn kind(&self, at: Address) -> Kind
+        requires { IsSome (start_in self.now at) }
+        ensures { IfSome (start_in self.now at) (λ x. result ≡ x.kind) }
+    {
+        self.territory_of(at).kind(at)
+    }
+
+    /// Its length: fields, or bytes of a byte object; 0 of a guardian, 2 of a queue cell.
+    pub fn length(&self, at: Address) -> u32
+        requires { IsSome (start_in self.now at) }
+        ensures { IfSome (start_in self.now at) (λ x. result ≡ x.length) }
+    {
+        self.territory_of(at).length(at)
+    }
+
+    /// A word of it, counted after the header.
+    pub fn word(&self, at: Address, index: u32) -> u64
+        requires { index < length (words_of (start_in self.now at)) }
+        ensures { result ≡ slice_index (words_of (start_in self.now at)) index }
+    {
+        self.territory_of(at).word(at, index)
+    }
+
+    /// Puts a word into a start, at an index that is counted after its header, and marks its card where `refers`, the
+    /// generation of what the word refers to, is below that of the start. 255 stands for no reference.
+    pub fn put(&mut self, at: Address, index: u32, word: u64, refers: u8)
+        requires { index < length (words_of (start_in self.old at)) }
+        ensures { IsPut self.old self.new at index word refers }
+    {
+        let i = self.index(at);
+        self.territories[i].put(at, index, word, refers);
+    }
+
+    /// Makes a copy of a start in this generation, in the same thread, and gives its address. No card is marked. Takes
+    /// memory.
+    pub fn copy(&mut self, at: Address, generation: u8) -> Result<Address, AllocError>
+        requires start { IsSome (start_in self.old at) }
+        requires generation_in { generation ≤ 8 }
+        ensures copied { IfOk result (λ q. IsCopied self.old self.new at generation q) }
+        ensures number { self.new.number ≡ self.old.number }
+        ensures sweepers { self.new.sweepers ≡ self.old.sweepers }
+    {
+        let i = self.index(at);
+        let place = self.territories[i].copy(at, generation)?;
+        Ok(place)
+    }
+
+    /// Ends the collection in each of its territories, with nothing kept in place, and gives them, in the same order.
+    /// Costs what `finish` of each costs.
+    pub fn finish(self) -> Vec<Territory>
+        ensures { AreFinished self.territories result.items }
+    {
+        let mut territories = self.territories;
+        finish_all(&mut territories);
+        territories
+    }
+}
