@@ -1,0 +1,148 @@
+-- What keeping an object and putting a place do to a sweeper.
+use Rattle.std.proofs.Common.{◌≡◌, ◌≢◌, ℕ, ◌+◌, ◌<◌, ◌≤◌, Bool, true, false, cond, List, [], ◌∷◌, ◌++◌, length, min, max, Option, None, Some, IsSome, IfSome, IsTrue, Contains, refl, sym, ap, subst, ◌∙◌, inl, inr, ◌⊎◌, arith}
+use Rattle.std.specs.Prelude.{is_some}
+use Rattle.std.proofs.lemmas.Bool.{false≢true}
+use Rattle.std.proofs.lemmas.Bool.Decides.{nat_tests}
+use Rattle.std.proofs.lemmas.Option.{same_Some}
+use Rattle.gc_words.specs.declared.value.Value.{Value}
+use Rattle.gc_words.specs.declared.value.Value.TheVariants as value
+use Rattle.gc_words.specs.Word.{value_of}
+use Rattle.segment.specs.Segments.{Start}
+use Rattle.territory.specs.declared.territory.Targets.{Targets}
+use Rattle.territory.specs.Territories.{TellsLower, has_values}
+use Rattle.territory.specs.Copies.{RefersToNoneBelow, copy_in}
+use Rattle.directory.specs.declared.table.FromSegment.{FromSegment}
+use Rattle.directory.specs.Directories.{DirectoryView, from_at, target_of}
+use Rattle.sweep_model.specs.World.{goes_to, object_in}
+use Rattle.sweep_model.specs.Hands.{IsAbsent, forwarded_at}
+use Rattle.sweep_model.proofs.Memory.{index_some}
+use Rattle.sweep_share.specs.Shares.{AreSound, IsAlike, IsCopied, IsPut, ShareView, start_in}
+use Rattle.sweep_places.specs.Places.{PlacesView}
+use Rattle.sweeper.specs.Sweepers.{CanKeep, Copies, HasField, IsAtIn, IsJoined, IsSteady, Puts, SweeperView, hand_of}
+
+-- a collected generation goes to its target
+pub goes_target : (targets : Targets) (g : ℕ) → g ≤ targets.cg → goes_to targets g ≡ target_of targets g
+goes_target targets g h = grind (arith, nat_tests)
+
+-- what is said of the from-segment, where it is known
+pub if_from : (o : Option FromSegment) (P : FromSegment → Type 0) (f : FromSegment) → o ≡ Some f → IfSome o P → P f
+if_from o P f e h = subst (λ v. IfSome v P) e h
+
+-- the parts are of one sweeper still
+pub joined_share : (v : SweeperView) (share : ShareView) → IsJoined v → IsAlike v.share share → IsJoined (record v { share = share })
+joined_share v share j a = record {
+  places = j.places ∙ sym a.number;
+  registers = j.registers ∙ sym a.number;
+  count = j.count ∙ sym a.sweepers;
+  register_count = j.register_count ∙ sym a.sweepers;
+}
+
+module _ (v : SweeperView) (x q generation g : ℕ) (share : ShareView) (places : PlacesView) (c : CanKeep v x)
+    (is : generation ≡ target_of v.places.directory.targets g) (same : g ≡ c.from.generation)
+    (copied : IsCopied v.share share x generation q) (noted : places ≡ record v.places { own = v.places.own ++ (x, q) ∷ [] })
+    (absent : IsAbsent v.places.own x) where
+  its_target : (s : Start) → start_in v.share x ≡ Some s → generation ≡ target_of v.places.directory.targets s.generation
+  its_target s e = is ∙ ap (target_of v.places.directory.targets) (same ∙ c.same ∙ ap (λ (z : Start). z.generation) (same_Some _ _ (sym c.here ∙ e)))
+
+  goes : (s : Start) → start_in v.share x ≡ Some s → generation ≡ goes_to v.places.directory.targets s.generation
+  goes s e =
+      let young : s.generation ≤ v.places.directory.targets.cg =
+      subst (λ (z : Start). z.generation ≤ v.places.directory.targets.cg) (same_Some _ _ (sym c.here ∙ e)) c.young in
+      its_target s e ∙ sym (goes_target v.places.directory.targets s.generation young)
+
+  -- the object at x was copied to q
+  pub copies : Copies v (record v { share = share; places = places }) x q
+  copies = record {
+    steady = record {
+      alike = copied.alike;
+      number = ap (λ (z : PlacesView). z.number) noted;
+      directory = ap (λ (z : PlacesView). z.directory) noted;
+      registers = refl;
+      register_count = refl;
+      round = refl;
+      ran_out = refl;
+    };
+    copied = record {
+      number = copied.alike.number;
+      own = ap (λ (z : PlacesView). z.own) noted;
+      swept = refl;
+      register = refl;
+      inbox = refl;
+      outbox = refl;
+      absent = absent;
+      free = copied.free;
+      thread = copied.thread;
+      here = λ y e. copied.here y e ∙ ap (λ n. Some (copy_in n y)) (goes y e);
+      others = copied.others;
+    };
+    stays = copied.stays;
+    sound = λ told s e none. copied.sound told s e (subst (RefersToNoneBelow told s) (sym (its_target s e)) none);
+  }
+
+-- the same, where the fields show the value
+pub copies_shown : (s v : SweeperView) (x q generation g : ℕ) (share : ShareView) (places : PlacesView) → s ≡ v → (c : CanKeep v x)
+    → generation ≡ target_of v.places.directory.targets g → g ≡ c.from.generation → IsCopied s.share share x generation q
+    → places ≡ record s.places { own = s.places.own ++ (x, q) ∷ [] } → IsAbsent v.places.own x
+    → Copies v (record s { share = share; places = places }) x q
+copies_shown s v x q generation g share places e c is same copied noted absent =
+    subst (λ z. Copies v (record z { share = share; places = places }) x q) (sym e)
+    (copies v x q generation g share places c is same (subst (λ z. IsCopied z.share share x generation q) e copied)
+    (subst (λ z. places ≡ record z.places { own = z.places.own ++ (x, q) ∷ [] }) e noted) absent)
+
+-- ---- a place put
+
+object_is : (a b : ℕ) → Some (value.Object a) ≡ Some (value.Object b) → a ≡ b
+object_is a b e = cc
+
+tells : (o : Option Start) (word q refers : ℕ) (g : ℕ → Option ℕ) → value_of word ≡ Some (value.Object q)
+    → ((h : ℕ) → g q ≡ Some h → refers ≤ h) → TellsLower g o word refers
+tells None word q refers g is known = tt
+tells (Some x) word q refers g is known = λ b h has names there low.
+    known h (ap g (object_is q b (sym is ∙ names)) ∙ there)
+
+pub puts : (s v : SweeperView) (p i q refers word : ℕ) (share : ShareView) → s ≡ v → IsPut s.share share p i word refers
+    → value_of word ≡ Some (value.Object q) → Puts v (record s { share = share }) p i q refers
+puts s v p i q refers word share e put is = subst (λ z. Puts z (record s { share = share }) p i q refers) e (record {
+  steady = record {
+    alike = put.alike;
+    number = refl;
+    directory = refl;
+    registers = refl;
+    register_count = refl;
+    round = refl;
+    ran_out = refl;
+  };
+  word = word;
+  is_word = is;
+  put = record {
+    number = put.alike.number;
+    own = refl;
+    swept = refl;
+    register = refl;
+    inbox = refl;
+    outbox = refl;
+    here = put.here;
+    others = put.others;
+  };
+  sound = λ g known. put.sound g (tells (start_in s.share p) word q refers g is known);
+})
+
+-- ---- the place of an object
+
+pub none_of : (o : Option FromSegment) (b : Bool) → b ≡ false → (IsTrue b → IsSome o) × (IsSome o → IsTrue b) → is_some o ≡ false
+none_of None b e h = refl
+none_of (Some f) b e h = absurd (false≢true (sym e ∙ h.1 refl))
+
+pub some_of : (o : Option FromSegment) (b : Bool) → b ≡ true → (IsTrue b → IsSome o) × (IsSome o → IsTrue b) → is_some o ≡ true
+some_of None b e h = absurd (none (h.0 e))
+  where
+    none : IsSome {T = FromSegment} None → ⊥
+    none s = false≢true s
+some_of (Some f) b e h = refl
+
+-- a collected object that was forwarded is in the list
+pub is_there : (v : SweeperView) (x i : ℕ) → HasField v x i → is_some (from_at v.places.directory x) ≡ true → IsAbsent v.places.own x → ⊥
+is_there v x i field young absent = elim field.at.1 [
+  | inl old ↦ false≢true (sym old.0 ∙ young)
+  | inr pair ↦ let n = index_some v.places.own (x, field.at.0) pair in absent n.0 n.1 (ap (λ (f : ℕ × ℕ). f.0) n.2)
+]

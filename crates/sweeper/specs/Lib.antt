@@ -1,0 +1,3 @@
+pub mod Sweepers
+pub mod Ready
+pub mod Starting

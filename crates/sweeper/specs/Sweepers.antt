@@ -1,0 +1,145 @@
+-- What contracts see of a sweeper, and what its steps change.
+use Rattle.std.specs.Prelude.{◌≡◌, ◌≢◌, ℕ, ◌<◌, ◌≤◌, Bool, false, List, [], ◌∷◌, ◌++◌, length, is_some, if◌then◌else◌, Option, None, Some, IsSome, Contains, ◌⊎◌}
+use Rattle.gc_words.specs.declared.value.Value.TheVariants as value
+use Rattle.gc_words.specs.Word.{value_of}
+use Rattle.segment.specs.Segments.{Start}
+use Rattle.territory.specs.Copies.{RefersToNoneBelow}
+use Rattle.territory.specs.Territories.{words_of}
+use Rattle.gc_mail.specs.declared.message.Message.{Message}
+use Rattle.gc_mail.specs.declared.message.Message.TheVariants as message
+use Rattle.gc_mail.specs.declared.message.Slot.{Slot}
+use Rattle.gc_mail.specs.declared.message.Slot.TheVariants as back
+use Rattle.gc_mail.specs.Recipients.{owner}
+use Rattle.directory.specs.declared.table.FromSegment.{FromSegment}
+use Rattle.directory.specs.Directories.{DirectoryView, IsCollected, from_at, sweeper_count, target_of}
+use Rattle.sweep_model.specs.World.{object_in, strong_value}
+use Rattle.sweep_model.specs.Hands.{Hand, IsCopiedNow, IsPutAt, IsRegisterSet}
+use Rattle.sweep_share.specs.Shares.{AreSound, IsAlike, ShareView, is_aside, start_in}
+use Rattle.sweep_share.specs.Registers.{RegistersView, register_in}
+use Rattle.sweep_places.specs.Places.{IsOwnStart, PlacesView}
+
+-- The territories and registers that it serves; the places of its objects, in the order of forwarding, and how many of
+-- them are swept; its mail; which round comes next, and whether a round ran out of memory.
+pub record SweeperView : Type 0 where
+  pub share : ShareView
+  pub registers : RegistersView
+  pub places : PlacesView
+  pub swept : ℕ
+  pub inbox : List Message
+  pub outbox : List Message
+  pub round : ℕ
+  pub ran_out : Bool
+
+-- its parts are of one sweeper of one collection
+pub record IsJoined (v : SweeperView) : Type 0 where
+  pub places : v.places.number ≡ v.share.number
+  pub registers : v.registers.number ≡ v.share.number
+  pub count : sweeper_count v.places.directory ≡ v.share.sweepers
+  pub register_count : v.registers.sweepers ≡ v.share.sweepers
+
+-- as a hand of the model
+abbrev pub hand_of : SweeperView → Hand
+hand_of v = record {
+  number = v.share.number;
+  now = start_in v.share;
+  own = v.places.own;
+  swept = v.swept;
+  register = register_in v.registers;
+  inbox = v.inbox;
+  outbox = v.outbox;
+}
+
+-- ---- what a field asks for, as the directory tells it
+
+abbrev pub if_aside : DirectoryView → Option ℕ → Option ℕ
+if_aside d None = None
+if_aside d (Some t) = if is_some (from_at d t) then Some t else None
+
+abbrev pub asked_in : DirectoryView → Option Start → ℕ → Option ℕ
+asked_in d start i = if_aside d (object_in (strong_value start i))
+
+-- ---- steps
+
+-- the same collection, and neither the round nor the memory changed
+pub record IsSteady (old new : SweeperView) : Type 0 where
+  pub alike : IsAlike old.share new.share
+  pub number : new.places.number ≡ old.places.number
+  pub directory : new.places.directory ≡ old.places.directory
+  pub registers : new.registers.number ≡ old.registers.number
+  pub register_count : new.registers.sweepers ≡ old.registers.sweepers
+  pub round : new.round ≡ old.round
+  pub ran_out : new.ran_out ≡ old.ran_out
+
+-- an object of its own that may be kept: it starts in a from-segment of a collected generation
+pub record CanKeep (v : SweeperView) (x : ℕ) : Type 0 where
+  pub start : Start
+  pub here : start_in v.share x ≡ Some start
+  pub own : IsOwnStart v.places.directory v.places.number x
+  pub from : FromSegment
+  pub lies : from_at v.places.directory x ≡ Some from
+  pub same : from.generation ≡ start.generation
+  pub young : start.generation ≤ v.places.directory.targets.cg
+
+-- x was copied to q
+pub record Copies (old new : SweeperView) (x q : ℕ) : Type 0 where
+  pub steady : IsSteady old new
+  pub copied : IsCopiedNow old.places.directory.targets (hand_of old) (hand_of new) x q
+  pub stays : is_aside new.share q ≡ false
+  pub sound : (generation_at : ℕ → Option ℕ) (s : Start) → start_in old.share x ≡ Some s
+      → RefersToNoneBelow generation_at s (target_of old.places.directory.targets s.generation)
+      → AreSound generation_at old.share → AreSound generation_at new.share
+
+-- x has the place q, from now on or since before
+pub data IsKept (old new : SweeperView) (x q : ℕ) : Type 0 where
+  WasKept : Contains old.places.own (x, q) → new ≡ old → IsKept old new x q
+  IsKeptNow : Copies old new x q → IsKept old new x q
+
+-- Field i of what stands at p has the place q. Cards stay sound where q is of no lower generation than `refers`.
+pub record Puts (old new : SweeperView) (p i q refers : ℕ) : Type 0 where
+  pub steady : IsSteady old new
+  pub word : ℕ
+  pub is_word : value_of word ≡ Some (value.Object q)
+  pub put : IsPutAt (hand_of old) (hand_of new) p i word
+  pub sound : (generation_at : ℕ → Option ℕ) → ((h : ℕ) → generation_at q ≡ Some h → refers ≤ h)
+      → AreSound generation_at old.share → AreSound generation_at new.share
+
+-- register r has the place q
+pub record Sets (old new : SweeperView) (r q : ℕ) : Type 0 where
+  pub steady : IsSteady old new
+  pub share : new.share ≡ old.share
+  pub put : IsRegisterSet (hand_of old) (hand_of new) r q
+
+abbrev pub sends : SweeperView → Message → SweeperView
+sends v m = record v { outbox = v.outbox ++ m ∷ [] }
+
+-- where an object is: at its old place, where it is not collected, or where it was forwarded to
+abbrev pub IsAtIn : SweeperView → ℕ → ℕ → Type 0
+IsAtIn v x p = ((is_some (from_at v.places.directory x) ≡ false) × (p ≡ x)) ⊎ Contains v.places.own (x, p)
+
+-- the object of the field has a place, and a word there that can be written
+pub record HasField (v : SweeperView) (x i : ℕ) : Type 0 where
+  pub at : (p : ℕ) × IsAtIn v x p
+  pub index_in : (p : ℕ) → IsAtIn v x p → i < length (words_of (start_in v.share p))
+  pub own : IsCollected v.places.directory x → IsOwnStart v.places.directory v.places.number x
+
+abbrev pub HasWord : SweeperView → Slot → Type 0
+HasWord v (back.Register r) = IsSome (register_in v.registers r)
+HasWord v (back.Field x i) = HasField v x i
+HasWord v _ = ⊥
+
+-- the slot has the place q
+abbrev pub Writes : SweeperView → SweeperView → Slot → ℕ → ℕ → Type 0
+Writes old new (back.Register r) q refers = Sets old new r q
+Writes old new (back.Field x i) q refers = (p : ℕ) × IsAtIn old x p × Puts old new p i q refers
+Writes old new _ q refers = ⊥
+
+-- What is done with field i of x, whose copy stands at p: nothing where it asks for nothing; where it asks for an object
+-- of its own, that is kept and its place put; else its owner is asked.
+pub data FieldDone (old new : SweeperView) (x p i : ℕ) : Type 0 where
+  IsPlain : asked_in old.places.directory (start_in old.share x) i ≡ None → new ≡ old → FieldDone old new x p i
+  IsOwn : (t q : ℕ) (mid : SweeperView) (c : CanKeep old t) → asked_in old.places.directory (start_in old.share x) i ≡ Some t
+      → IsKept old mid t q → Puts mid new p i q (target_of old.places.directory.targets c.start.generation)
+      → FieldDone old new x p i
+  IsForeign : (t : ℕ) → asked_in old.places.directory (start_in old.share x) i ≡ Some t
+      → owner old.share.sweepers t ≢ old.share.number → new ≡ sends old (message.Forward t (back.Field x i))
+      → FieldDone old new x p i

@@ -1,0 +1,46 @@
+//! A round of a sweeper.
+
+ghost use Rattle.std.specs.Prelude.{◌≡◌, ◌+◌, ◌-◌, ◌^◌, ◌≤◌, true, [], OnErr, OnOk, length, min};
+ghost use Rattle.sweeper.specs.Ready.{Ready, Runs, RunsRound};
+
+use crate::Sweeper;
+use directory::Directory;
+use gc_io::Gate;
+use std::alloc::AllocError;
+
+impl Sweeper {
+    /// A round: passes the gate with its number, handles all messages that came, and sweeps until nothing of its own is
+    /// unswept. What it asks of others, and what it answers, is in its outbox then. AllocError where memory is refused;
+    /// the sweeper is then not to be used any more.
+    pub fn round<G: Gate>(&mut self, directory: &Directory, gate: &G) -> Result<(), AllocError>
+        requires same { self.old.places.directory ≡ directory.now }
+        requires ready { Ready self.old }
+        ensures runs { OnOk result (RunsRound self.old self.new) }
+        ensures inbox { OnOk result (self.new.inbox ≡ []) }
+        ensures swept { OnOk result (length self.new.places.own ≤ self.new.swept) }
+        ensures round { OnOk result (self.new.round ≡ min (self.old.round + 1) (2 ^ 64 - 1)) }
+        ensures ran_out { OnOk result (self.new.ran_out ≡ self.old.ran_out) }
+        ensures refused { OnErr result (self.new.ran_out ≡ true) }
+    {
+        gate.pass(self.share.number(), self.round);
+        let worked = self.work(directory);
+        self.round = self.round.saturating_add(1);
+        if worked.is_err() {
+            self.ran_out = true;
+        }
+        worked
+    }
+
+    /// Handles all messages, and sweeps what is unswept.
+    fn work(&mut self, directory: &Directory) -> Result<(), AllocError>
+        requires same { self.old.places.directory ≡ directory.now }
+        requires ready { Ready self.old }
+        ensures runs { OnOk result (Runs self.old self.new) }
+        ensures inbox { OnOk result (self.new.inbox ≡ []) }
+        ensures swept { OnOk result (length self.new.places.own ≤ self.new.swept) }
+    {
+        self.handle_all(directory)?;
+        self.sweep_all(directory)?;
+        Ok(())
+    }
+}
