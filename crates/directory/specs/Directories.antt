@@ -1,5 +1,5 @@
 -- What contracts see of a directory.
-use Rattle.std.specs.Prelude.{◌≡◌, ℕ, ◌+◌, ◌%◌, ◌^◌, ◌<◌, ◌≤◌, ◌⊎◌, if◌then◌else◌, nat_lt, min, max, List, length, take, sum, slice_get, slice_index, Option, Some, None, IsSome}
+use Rattle.std.specs.Prelude.{◌≡◌, ℕ, ◌+◌, ◌%◌, ◌^◌, ◌<◌, ◌≤◌, ◌⊎◌, if◌then◌else◌, nat_lt, List, length, take, sum, slice_get, slice_index, Option, Some, None, IsSome}
 use Rattle.gc_words.specs.Layout.{thread_of, segment_of, offset_of}
 use Rattle.territory.specs.declared.territory.Targets.{Targets}
 use Rattle.territory.specs.Territories.{TerritoryView}
@@ -74,10 +74,6 @@ TellsApart d = (a b : ℕ) → CanStart d a → CanStart d b → word_in d a ≡
 
 -- ---- generations
 
--- where an object of a collected generation goes
-abbrev pub target_of : Targets → ℕ → ℕ
-target_of targets generation = min (max (generation + 1) targets.min) targets.max
-
 -- targets that a collection may have
 pub record AreTargets (targets : Targets) : Type 0 where
   pub least : targets.cg ≤ targets.min
@@ -91,7 +87,7 @@ pub record AreOfThreads (territories : List TerritoryView) : Type 0 where
   pub count : length territories ≡ 64
   pub each : (i : ℕ) (t : TerritoryView) → slice_get territories i ≡ Some t → t.thread ≡ i
 
--- each of them began a collection with these targets
+-- these are the targets of each of them: those of the collection that it began last
 abbrev pub HaveBegun : List TerritoryView → Targets → Type 0
 HaveBegun territories targets =
     (i : ℕ) (t : TerritoryView) → slice_get territories i ≡ Some t → t.targets ≡ targets

@@ -2,7 +2,8 @@
 
 ghost use Rattle.std.specs.Prelude.{◌≡◌, ◌↔◌, ℕ, ◌+◌, ◌^◌, ◌<◌, ◌≤◌, length, slice_index, Option, IfOk, IfSome, IsSome, IsTrue};
 ghost use Rattle.directory.specs.Tables.{aside_at, shown};
-ghost use Rattle.directory.specs.Directories.{from_at, from_in, owner_in, start_of, sweeper_count, target_of, word_in, AreOfThreads, HasOwnWords, HaveBegun, IsCollected, IsWithin, TellsApart};
+ghost use Rattle.territory.specs.Finishing.{target_of};
+ghost use Rattle.directory.specs.Directories.{from_at, from_in, owner_in, start_of, sweeper_count, word_in, AreOfThreads, HasOwnWords, HaveBegun, IsCollected, IsWithin, TellsApart};
 
 use crate::numbering::{THREADS, number_threads};
 use crate::table::{FromSegment, FromTable};

@@ -1,5 +1,5 @@
 -- What stood when a collection began, and which objects its slots ask for. Objects are named by their old addresses.
-use Rattle.std.specs.Prelude.{◌≡◌, ℕ, ◌+◌, ◌<◌, ◌≤◌, ◌==◌, nat_le, min, max, Bool, true, false, not, if◌then◌else◌, slice_index, Option, None, Some, IsSome}
+use Rattle.std.specs.Prelude.{◌≡◌, ℕ, ◌<◌, ◌≤◌, ◌==◌, nat_le, Bool, true, false, not, if◌then◌else◌, slice_index, Option, None, Some, IsSome}
 use Rattle.gc_words.specs.declared.value.Value.{Value}
 use Rattle.gc_words.specs.declared.value.Value.TheVariants as value
 use Rattle.gc_words.specs.Word.{value_of}
@@ -9,6 +9,7 @@ use Rattle.trace_types.specs.declared.kind.Kind.TheVariants as kind
 use Rattle.segment.specs.Segments.{Start}
 use Rattle.territory.specs.declared.territory.Targets.{Targets}
 use Rattle.territory.specs.Territories.{IsShaped}
+use Rattle.territory.specs.Finishing.{target_of}
 use Rattle.gc_mail.specs.declared.message.Slot.{Slot as Back}
 use Rattle.gc_mail.specs.declared.message.Slot.TheVariants as back
 
@@ -40,7 +41,7 @@ is_older world a = is_old world.targets.cg (world.image a)
 
 -- the generation that an object has after the collection
 abbrev pub goes_to : Targets → ℕ → ℕ
-goes_to targets g = if nat_le g targets.cg then min (max (g + 1) targets.min) targets.max else g
+goes_to targets g = if nat_le g targets.cg then target_of targets g else g
 
 -- ---- fields
 

@@ -3,7 +3,8 @@ use Rattle.std.proofs.Common.{◌≡◌, ◌≢◌, ℕ, List, [], ◌∷◌, �
 use Rattle.gc_mail.specs.declared.message.Message.{Message}
 use Rattle.gc_mail.specs.declared.message.Slot.{Slot}
 use Rattle.gc_mail.specs.Recipients.{holder_of}
-use Rattle.directory.specs.Directories.{DirectoryView, from_at, sweeper_count, target_of}
+use Rattle.territory.specs.Finishing.{target_of}
+use Rattle.directory.specs.Directories.{DirectoryView, from_at, sweeper_count}
 use Rattle.sweeper.specs.Sweepers.{CanKeep, IsJoined, IsKept, IsKeptNow, IsSteady, SweeperView, WasKept, sends}
 use Rattle.sweeper.proofs.Kept.{if_from}
 use Rattle.sweeper.proofs.WorldSteady.{steady_itself}

@@ -1,5 +1,5 @@
 -- What a field asks for, as the code finds it.
-use Rattle.std.proofs.Common.{◌≡◌, ◌≢◌, ℕ, ◌<◌, Bool, true, false, cond, List, [], ◌∷◌, ◌++◌, length, get_or, slice_index, Option, None, Some, IsSome, IfSome, IsTrue, refl, sym, ap, subst, ◌∙◌, arith}
+use Rattle.std.proofs.Common.{◌≡◌, ℕ, ◌<◌, Bool, true, false, cond, List, [], ◌∷◌, ◌++◌, length, get_or, slice_index, Option, None, Some, IsSome, IsTrue, refl, sym, ap, subst, ◌∙◌, arith}
 use Rattle.std.specs.Prelude.{is_some}
 use Rattle.std.proofs.lemmas.Bool.{false≢true}
 use Rattle.gc_words.specs.Word.{value_of}
@@ -10,12 +10,12 @@ use Rattle.gc_mail.specs.declared.message.Message.{Message}
 use Rattle.gc_mail.specs.declared.message.Message.TheVariants as message
 use Rattle.gc_mail.specs.declared.message.Slot.TheVariants as back
 use Rattle.gc_mail.specs.Recipients.{owner}
-use Rattle.directory.specs.declared.table.FromSegment.{FromSegment}
-use Rattle.directory.specs.Directories.{DirectoryView, from_at, target_of}
+use Rattle.territory.specs.Finishing.{target_of}
+use Rattle.directory.specs.Directories.{DirectoryView, from_at}
 use Rattle.sweep_model.specs.World.{is_strong, object_in, strong_value}
 use Rattle.sweep_share.specs.Shares.{start_in}
 use Rattle.sweeper.specs.Sweepers.{CanKeep, FieldDone, IsForeign, IsKept, IsOwn, Puts, SweeperView, asked_in, if_aside, sends}
-use Rattle.sweeper.proofs.Kept.{if_from, some_of}
+use Rattle.sweeper.proofs.Kept.{some_of}
 
 strong : (s : Start) (k : Kind) (i : ℕ) → s.kind ≡ k → is_strong k i ≡ true → strong_value (Some s) i ≡ value_of (get_or s.words i 0)
 strong s k i kind e = ap (λ b. cond b (value_of (get_or s.words i 0)) None) (ap (λ z. is_strong z i) kind ∙ e)

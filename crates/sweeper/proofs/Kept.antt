@@ -1,24 +1,24 @@
 -- What keeping an object and putting a place do to a sweeper.
-use Rattle.std.proofs.Common.{◌≡◌, ◌≢◌, ℕ, ◌+◌, ◌<◌, ◌≤◌, Bool, true, false, cond, List, [], ◌∷◌, ◌++◌, length, min, max, Option, None, Some, IsSome, IfSome, IsTrue, Contains, refl, sym, ap, subst, ◌∙◌, inl, inr, ◌⊎◌, arith}
+use Rattle.std.proofs.Common.{◌≡◌, ℕ, ◌≤◌, Bool, true, false, [], ◌∷◌, ◌++◌, Option, None, Some, IsSome, IfSome, IsTrue, refl, sym, ap, subst, ◌∙◌, inl, inr, arith}
 use Rattle.std.specs.Prelude.{is_some}
 use Rattle.std.proofs.lemmas.Bool.{false≢true}
 use Rattle.std.proofs.lemmas.Bool.Decides.{nat_tests}
 use Rattle.std.proofs.lemmas.Option.{same_Some}
-use Rattle.gc_words.specs.declared.value.Value.{Value}
 use Rattle.gc_words.specs.declared.value.Value.TheVariants as value
 use Rattle.gc_words.specs.Word.{value_of}
 use Rattle.segment.specs.Segments.{Start}
 use Rattle.territory.specs.declared.territory.Targets.{Targets}
-use Rattle.territory.specs.Territories.{TellsLower, has_values}
+use Rattle.territory.specs.Territories.{TellsLower}
 use Rattle.territory.specs.Copies.{RefersToNoneBelow, copy_in}
 use Rattle.directory.specs.declared.table.FromSegment.{FromSegment}
-use Rattle.directory.specs.Directories.{DirectoryView, from_at, target_of}
-use Rattle.sweep_model.specs.World.{goes_to, object_in}
-use Rattle.sweep_model.specs.Hands.{IsAbsent, forwarded_at}
+use Rattle.territory.specs.Finishing.{target_of}
+use Rattle.directory.specs.Directories.{from_at}
+use Rattle.sweep_model.specs.World.{goes_to}
+use Rattle.sweep_model.specs.Hands.{IsAbsent}
 use Rattle.sweep_model.proofs.Memory.{index_some}
-use Rattle.sweep_share.specs.Shares.{AreSound, IsAlike, IsCopied, IsPut, ShareView, start_in}
+use Rattle.sweep_share.specs.Shares.{IsAlike, IsCopied, IsPut, ShareView, start_in}
 use Rattle.sweep_places.specs.Places.{PlacesView}
-use Rattle.sweeper.specs.Sweepers.{CanKeep, Copies, HasField, IsAtIn, IsJoined, IsSteady, Puts, SweeperView, hand_of}
+use Rattle.sweeper.specs.Sweepers.{CanKeep, Copies, HasField, IsJoined, Puts, SweeperView}
 
 -- a collected generation goes to its target
 pub goes_target : (targets : Targets) (g : ℕ) → g ≤ targets.cg → goes_to targets g ≡ target_of targets g

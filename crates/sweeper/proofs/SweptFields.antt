@@ -1,15 +1,14 @@
 -- The fields of the object that is swept, as the code counts and handles them.
-use Rattle.std.proofs.Common.{◌≡◌, ℕ, ◌+◌, ◌-◌, ◌<◌, ◌≤◌, Bool, true, false, List, length, Option, None, Some, IsSome, IfSome, refl, sym, ap, subst, ◌∙◌, arith}
+use Rattle.std.proofs.Common.{◌≡◌, ℕ, ◌<◌, ◌≤◌, false, length, Option, Some, IsSome, IfSome, refl, sym, ap, subst, ◌∙◌, arith}
 use Rattle.trace_types.specs.declared.kind.Kind.{Kind}
 use Rattle.trace_types.specs.declared.kind.Kind.TheVariants as kind
 use Rattle.segment.specs.Layout.{HasLength, words_after}
 use Rattle.segment.specs.Segments.{Start}
 use Rattle.territory.specs.Territories.{IsShaped, words_of}
-use Rattle.directory.specs.Directories.{DirectoryView}
 use Rattle.sweep_model.specs.World.{is_strong}
 use Rattle.sweep_model.specs.Hands.{forwarded_at}
 use Rattle.sweep_share.specs.Shares.{start_in}
-use Rattle.sweeper.specs.Sweepers.{Copies, FieldDone, IsForeign, IsKept, IsKeptNow, IsOwn, IsPlain, SweeperView, WasKept}
+use Rattle.sweeper.specs.Sweepers.{FieldDone, IsForeign, IsKept, IsKeptNow, IsOwn, IsPlain, SweeperView, WasKept}
 use Rattle.sweeper.specs.Ready.{Ready}
 use Rattle.sweeper.proofs.WorldSwept.{IsNext, IsSweptTo, next_is, swept_there, there_words}
 

@@ -14,7 +14,7 @@ use Rattle.gc_mail.specs.declared.message.Slot.{Slot}
 use Rattle.gc_mail.specs.Recipients.{owner}
 use Rattle.owned_core.specs.declared.slot.Standing.{Standing}
 use Rattle.owned_core.specs.Settings.{Setting}
-use Rattle.directory.specs.Directories.{target_of}
+use Rattle.territory.specs.Finishing.{target_of}
 use Rattle.sweep_model.specs.World.{World, asks, goes_to, is_collected, is_young}
 use Rattle.sweep_model.specs.Settings.{IsSettingOf}
 use Rattle.sweep_model.specs.Hands.{IsCopiedNow}

@@ -7,7 +7,7 @@ use Rattle.gc_mail.specs.declared.message.Slot.{Slot}
 use Rattle.gc_mail.specs.declared.message.Slot.TheVariants as back
 use Rattle.gc_mail.specs.Recipients.{HasRecipient, holder_of}
 use Rattle.owned_core.proofs.Lists.{contains_cases, contains_here, contains_none}
-use Rattle.directory.specs.Directories.{target_of}
+use Rattle.territory.specs.Finishing.{target_of}
 use Rattle.sweep_model.specs.World.{World, asks}
 use Rattle.sweep_model.specs.Hands.{with_inbox}
 use Rattle.sweep_model.specs.Holding.{Goes, in_standing}

@@ -2,7 +2,8 @@
 use Rattle.std.proofs.Common.{◌≡◌, ℕ, ◌+◌, ◌≤◌, min, max, cond, refl, sym, ap, subst, ◌∙◌, arith}
 use Rattle.std.proofs.lemmas.Bool.{le-leb}
 use Rattle.territory.specs.declared.territory.Targets.{Targets}
-use Rattle.directory.specs.Directories.{sweeper_count, target_of}
+use Rattle.territory.specs.Finishing.{target_of}
+use Rattle.directory.specs.Directories.{sweeper_count}
 use Rattle.sweep_model.specs.World.{goes_to}
 use Rattle.sweep_share.specs.Shares.{IsAlike, ShareView}
 use Rattle.sweep_share.specs.Registers.{RegistersView}

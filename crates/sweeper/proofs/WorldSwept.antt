@@ -11,7 +11,7 @@ use Rattle.gc_mail.specs.declared.message.Slot.TheVariants as back
 use Rattle.gc_mail.specs.Recipients.{owner}
 use Rattle.owned_core.specs.declared.slot.Standing.{Standing}
 use Rattle.owned_core.specs.Settings.{Setting}
-use Rattle.directory.specs.Directories.{target_of}
+use Rattle.territory.specs.Finishing.{target_of}
 use Rattle.sweep_model.specs.World.{World, asks, if_collected, is_collected, is_strong, object_in, strong_value}
 use Rattle.sweep_model.specs.Settings.{IsSettingOf}
 use Rattle.sweep_model.specs.Hands.{forwarded_at}

@@ -10,7 +10,8 @@ use Rattle.gc_mail.specs.Recipients.{holder_of, owner}
 use Rattle.owned_core.specs.declared.slot.Standing.{Standing}
 use Rattle.owned_core.specs.Settings.{Setting}
 use Rattle.directory.specs.declared.table.FromSegment.{FromSegment}
-use Rattle.directory.specs.Directories.{CanStart, from_at, target_of}
+use Rattle.territory.specs.Finishing.{target_of}
+use Rattle.directory.specs.Directories.{CanStart, from_at}
 use Rattle.sweep_model.specs.World.{IsWorld, World, asks, goes_to, is_collected}
 use Rattle.sweep_model.specs.Settings.{IsSettingOf}
 use Rattle.sweep_model.specs.Holding.{Goes, in_standing}

@@ -11,7 +11,8 @@ use Rattle.gc_mail.specs.declared.message.Slot.{Slot}
 use Rattle.gc_mail.specs.declared.message.Slot.TheVariants as back
 use Rattle.gc_mail.specs.Recipients.{owner}
 use Rattle.directory.specs.declared.table.FromSegment.{FromSegment}
-use Rattle.directory.specs.Directories.{DirectoryView, IsCollected, from_at, sweeper_count, target_of}
+use Rattle.territory.specs.Finishing.{target_of}
+use Rattle.directory.specs.Directories.{DirectoryView, IsCollected, from_at, sweeper_count}
 use Rattle.sweep_model.specs.World.{object_in, strong_value}
 use Rattle.sweep_model.specs.Hands.{Hand, IsCopiedNow, IsPutAt, IsRegisterSet}
 use Rattle.sweep_share.specs.Shares.{AreSound, IsAlike, ShareView, is_aside, start_in}

@@ -3,7 +3,7 @@
 ghost use Rattle.std.specs.Prelude.{◌≡◌, ◌+◌, [], IfOk, OnOk, length, true, false};
 ghost use Rattle.gc_mail.specs.Recipients.{HasRecipient, holder_of};
 ghost use Rattle.gc_mail.specs.declared.message.Message.TheVariants as message;
-ghost use Rattle.directory.specs.Directories.{target_of};
+ghost use Rattle.territory.specs.Finishing.{target_of};
 ghost use Rattle.sweeper.specs.Sweepers.{CanKeep, HasWord, Writes};
 ghost use Rattle.sweeper.specs.Ready.{Answered, Handles, MayHandle, Ready, Runs};
 

@@ -1,9 +1,7 @@
-use Rattle.std.proofs.Common.{◌≡◌, IfSome, Some, sym, ap, subst, ◌∙◌}
-use Rattle.directory.specs.declared.table.FromSegment.{FromSegment}
-use Rattle.directory.specs.Directories.{DirectoryView, from_at, target_of}
-use Rattle.sweep_model.specs.Hands.{IsAbsent}
-use Rattle.sweeper.specs.Sweepers.{IsJoined, SweeperView}
-use Rattle.sweeper.proofs.Kept.{copies_shown, if_from, joined_share}
+use Rattle.std.proofs.Common.{◌≡◌, Some, sym, ap, subst, ◌∙◌}
+use Rattle.territory.specs.Finishing.{target_of}
+use Rattle.directory.specs.Directories.{DirectoryView, from_at}
+use Rattle.sweeper.proofs.Kept.{copies_shown, if_from}
 use Rattle.sweeper.proofs.sweeper.Sweeper.copy.Goals as goal
 
 pub returns : goal.returns

@@ -1,13 +1,10 @@
-use Rattle.std.proofs.Common.{◌≡◌, Some, IsSome, IfSome, IsTrue, refl, sym, ap, subst, ◌∙◌}
-use Rattle.gc_mail.specs.declared.message.Message.{Message}
-use Rattle.gc_mail.specs.declared.message.Message.TheVariants as message
-use Rattle.gc_mail.specs.declared.message.Slot.TheVariants as back
-use Rattle.gc_mail.specs.Recipients.{owner}
-use Rattle.directory.specs.Directories.{DirectoryView, from_at, target_of}
+use Rattle.std.proofs.Common.{◌≡◌, Some, sym, ap, subst, ◌∙◌}
+use Rattle.territory.specs.Finishing.{target_of}
+use Rattle.directory.specs.Directories.{DirectoryView, from_at}
 use Rattle.sweep_share.specs.Shares.{start_in}
-use Rattle.sweeper.specs.Sweepers.{CanKeep, IsForeign, SweeperView, asked_in}
-use Rattle.sweeper.proofs.Kept.{if_from, some_of}
-use Rattle.sweeper.proofs.Fielding.{asked_some, foreign_done, is_asked, own_done, own_is}
+use Rattle.sweeper.specs.Sweepers.{CanKeep, asked_in}
+use Rattle.sweeper.proofs.Kept.{if_from}
+use Rattle.sweeper.proofs.Fielding.{foreign_done, is_asked, own_done, own_is}
 use Rattle.sweeper.proofs.sweeper.Sweeper.sweep_field.Goals as goal
 
 pub returns-then-is_own : goal.returns-then-is_own

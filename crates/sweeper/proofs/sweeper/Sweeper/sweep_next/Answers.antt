@@ -1,6 +1,6 @@
 use Rattle.std.proofs.Common.{◌≡◌, ◌+◌, sym, ap, subst, ◌∙◌, arith}
 use Rattle.sweeper.specs.Sweepers.{SweeperView}
-use Rattle.sweeper.proofs.WorldSwept.{IsNext, IsSweptTo, one_swept, swept_runs, swept_there, swept_to_more, swept_to_none, there_keeps}
+use Rattle.sweeper.proofs.WorldSwept.{IsSweptTo, one_swept, swept_runs, swept_there, swept_to_more, swept_to_none, there_keeps}
 use Rattle.sweeper.proofs.SweptFields.{copy_word, counted, counted_rest, counted_within, field_kind, field_left, field_word, is_next, length_fits, next_there}
 use Rattle.sweeper.proofs.sweeper.Sweeper.sweep_next.Goals as goal
 
