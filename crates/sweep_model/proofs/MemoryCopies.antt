@@ -146,6 +146,6 @@ module _ (world : World) (h h' : Hand) (x q : ℕ) (tied : Tied world h) (young 
         ],
       )
     ];
-    registers = λ r v e none.
-        tied.registers r v (ap (λ (f : ℕ → Option Value). f r) (sym copy.register) ∙ e) none;
+    registers = λ r mine none.
+        ap (λ (f : ℕ → Option Value). f r) copy.register ∙ tied.registers r (mine ∙ copy.number) none;
   }

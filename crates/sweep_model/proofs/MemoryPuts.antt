@@ -145,8 +145,8 @@ module _ (world : World) (h h' : Hand) (x p i t word q : ℕ) (tied : Tied world
         let s = stood b v e in
         let r = tied.only b s.0 s.1 in
         (r.0 ∙ sym put.number, rw put.own r.1);
-    registers = λ r v e none.
-        tied.registers r v (ap (λ (f : ℕ → Option Value). f r) (sym put.register) ∙ e) none;
+    registers = λ r mine none.
+        ap (λ (f : ℕ → Option Value). f r) put.register ∙ tied.registers r (mine ∙ put.number) none;
   }
 
   pub put_writes : IsWritten world h h' (back.Field x i) q × Tied world h'
@@ -204,7 +204,7 @@ module _ (world : World) (h h' : Hand) (r t q : ℕ) (tied : Tied world h)
     only = λ b v e.
         let u = tied.only b v (sym (now_same b) ∙ e) in
         (u.0 ∙ sym set.number, rw set.own u.1);
-    registers = λ n v e none. tied.registers n v (sym (set.others n (other_register n none)) ∙ e) none;
+    registers = λ n mine none. set.others n (other_register n none) ∙ tied.registers n (mine ∙ set.number) none;
   }
 
   pub set_writes : IsWritten world h h' (back.Register r) q × Tied world h'

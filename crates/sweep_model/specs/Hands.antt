@@ -9,7 +9,7 @@ use Rattle.territory.specs.declared.territory.Targets.{Targets}
 use Rattle.gc_mail.specs.declared.message.Message.{Message}
 use Rattle.gc_mail.specs.declared.message.Slot.{Slot as Back}
 use Rattle.gc_mail.specs.declared.message.Slot.TheVariants as back
-use Rattle.gc_mail.specs.Recipients.{owner}
+use Rattle.gc_mail.specs.Recipients.{holder_of, owner}
 use Rattle.sweep_model.specs.World.{World, asks, is_collected, goes_to}
 
 -- A sweeper: its number; what starts in its territories; the pairs of an object and its place in the order of
@@ -91,8 +91,8 @@ pub record Tied (world : World) (h : Hand) : Type 0 where
   pub only : (p : ℕ) (s : Start) → h.now p ≡ Some s
       → (owner world.sweepers p ≡ h.number) × (((s' : Start) × (world.image p ≡ Some s')) ⊎ ((x : ℕ) × Contains h.own (x, p)))
   -- a register of its own that asks for nothing is as it was
-  pub registers : (r : ℕ) (v : Value) → h.register r ≡ Some v → asks world (back.Register r) ≡ None
-      → world.registers r ≡ Some v
+  pub registers : (r : ℕ) → holder_of world.sweepers (back.Register r) ≡ h.number → asks world (back.Register r) ≡ None
+      → h.register r ≡ world.registers r
 
 -- ---- what the code does to it
 

@@ -89,17 +89,6 @@ module _ (world : World) (number : ℕ) (d : DirectoryView) (territories : List 
       at true g e = absurd (false≢true (sym e))
       at false g e = refl
 
-  held_own : (r : ℕ) (a : Value) → register_in (first_registers number d items) r ≡ Some a
-      → world.registers r ≡ Some a
-  held_own r a e = at (r % sweeper_count d == number) refl e
-    where
-      at : (b : Bool) → r % sweeper_count d == number ≡ b
-          → cond b (held_in (slice_get items (r / sweeper_count d))) None ≡ Some a → world.registers r
-          ≡ Some a
-      at true is h =
-          sym (begins.held r (ap (λ n. r % n) begins.sweepers ∙ eqb-true (r % sweeper_count d) number is)) ∙ e
-      at false is h = absurd (none-some a h)
-
   tied : Tied world (hand_of v)
   tied = record {
     frozen = λ x y was own young. now_is x (own ∙ number_is) ∙ was;
@@ -122,7 +111,7 @@ module _ (world : World) (number : ℕ) (d : DirectoryView) (territories : List 
     places_once = λ m n h k e. absurd (omega (arith, h));
     swept_in = omega arith;
     only = λ p y is. let own = now_own p y is in (own ∙ sym number_is, inl (y, sym (now_is p own) ∙ is));
-    registers = λ r a is none. held_own r a is;
+    registers = λ r mine none. begins.held r (mine ∙ number_is);
   }
 
   number_in : raised_share.number < world.sweepers

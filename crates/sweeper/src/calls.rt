@@ -3,6 +3,7 @@
 ghost use Rattle.std.specs.Prelude.{◌≡◌, ◌/◌, ◌%◌, ◌<◌, [], Contains, MatchOption, length};
 ghost use Rattle.sweep_model.specs.Hands.{IsAbsent};
 ghost use Rattle.sweep_places.specs.Places.{IsOwnStart};
+ghost use Rattle.sweep_share.specs.Registers.{AreRegistersOf};
 ghost use Rattle.sweep_share.specs.Shares.{AreFinished, territory_at};
 
 use crate::Sweeper;
@@ -84,6 +85,7 @@ impl Sweeper {
     pub fn finish(self) -> SweeperParts
         ensures territories { AreFinished self.share.territories result.territories.items }
         ensures registers { result.registers.items ≡ self.registers.items }
+        ensures numbers { AreRegistersOf self.registers.number self.registers.sweepers result.registers.items }
     {
         SweeperParts {
             territories: self.share.finish(),

@@ -1,0 +1,4 @@
+pub mod Reached
+pub mod Leaving
+pub mod Ending
+pub mod Counting

@@ -1,0 +1,4 @@
+pub mod Worlds
+pub mod Left
+pub mod Counts
+pub mod Laws

@@ -1,0 +1,52 @@
+-- A heap as a world: where its collection begins, and where it has ended.
+use Rattle.std.specs.Prelude.{◌≡◌, ℕ, ◌<◌, false, List, slice_get, Some, IsSome, Contains, ◌⊎◌}
+use Rattle.gc_words.specs.declared.value.Value.{Value}
+use Rattle.trace_types.specs.Collections.{Arguments}
+use Rattle.segment.specs.Segments.{Start}
+use Rattle.territory.specs.declared.territory.Targets.{Targets}
+use Rattle.territory.specs.Territories.{TerritoryView}
+use Rattle.gc_mail.specs.declared.message.Slot.TheVariants as back
+use Rattle.gc_mail.specs.Recipients.{holder_of, owner}
+use Rattle.owned_core.specs.Settings.{Setting}
+use Rattle.owned_core.specs.Owned.{State}
+use Rattle.sweep_model.specs.World.{World, is_collected}
+use Rattle.sweep_model.specs.Settings.{IsSettingOf}
+use Rattle.sweep_model.specs.Hands.{Hand, Tied}
+use Rattle.sweep_model.specs.Wholes.{AreDone}
+use Rattle.heap_store.specs.Starts.{Starts}
+use Rattle.heap_store.specs.HeapView.{HeapView, starts_in}
+
+-- what starts in territories and what registers hold, as n sweepers begin
+abbrev pub world_in : List TerritoryView → List Value → Targets → ℕ → World
+world_in territories registers targets n = record {
+  image = starts_in territories;
+  registers = λ r. slice_get registers r;
+  sweepers = n;
+  targets = targets;
+}
+
+abbrev pub world_of : HeapView → Targets → ℕ → World
+world_of h targets n = world_in h.territories h.registers targets n
+
+-- the arguments of a collection with these targets
+abbrev pub arguments_of : Targets → Arguments
+arguments_of targets = record { cg = targets.cg; least = targets.min; greatest = targets.max }
+
+-- The sweepers have come to their end. What starts afterwards, g, is what they have: older objects where they were, and
+-- copies at their places. The registers hold what the sweepers' registers hold.
+pub record HasEnded (world : World) (hands : ℕ → Hand) (g : Starts) (registers : List Value) : Type 0 where
+  pub setting : Setting
+  pub is_setting : IsSettingOf world setting
+  pub state : State
+  pub done : AreDone world setting hands state
+  pub tied : (k : ℕ) → k < world.sweepers → Tied world (hands k)
+  pub numbers : (k : ℕ) → k < world.sweepers → (hands k).number ≡ k
+  pub older : (x : ℕ) (y : Start) → world.image x ≡ Some y → is_collected world x ≡ false
+      → g x ≡ (hands (owner world.sweepers x)).now x
+  pub copies : (x p : ℕ) → Contains (hands (owner world.sweepers x)).own (x, p)
+      → g p ≡ (hands (owner world.sweepers x)).now p
+  pub only : (p : ℕ) (y : Start) → g p ≡ Some y
+      → (IsSome (world.image p) × (is_collected world p ≡ false))
+      ⊎ ((x : ℕ) × Contains (hands (owner world.sweepers x)).own (x, p))
+  pub registers : (r : ℕ) (v : Value) → slice_get registers r ≡ Some v
+      → (hands (holder_of world.sweepers (back.Register r))).register r ≡ Some v

@@ -1,0 +1,33 @@
+-- How territories and registers are dealt out to n sweepers, and gathered again.
+use Rattle.std.specs.Prelude.{◌≡◌, ℕ, ◌+◌, ◌*◌, ◌/◌, ◌%◌, ◌<◌, List, [], length, option_map, slice_get, slice_index_or, Option}
+use Rattle.gc_words.specs.declared.value.Value.{Value}
+use Rattle.territory.specs.Territories.{TerritoryView}
+
+-- the territories of sweeper k
+abbrev pub own_at : List (List TerritoryView) → ℕ → List TerritoryView
+own_at owns k = slice_index_or owns k []
+
+-- item i of sweeper k is number k + i n of all, and there are no more
+abbrev pub IsDealtTo : ℕ → ℕ → List TerritoryView → List TerritoryView → Type 0
+IsDealtTo n k all own = (i : ℕ) → slice_get own i ≡ slice_get all (k + i * n)
+
+-- each sweeper has its own
+pub record AreDealt (n : ℕ) (all : List TerritoryView) (owns : List (List TerritoryView)) : Type 0 where
+  pub count : length owns ≡ n
+  pub each : (k : ℕ) → k < n → IsDealtTo n k all (own_at owns k)
+
+-- so are registers, each with its number
+abbrev pub numbered : ℕ → Option Value → Option (ℕ × Value)
+numbered r o = option_map (λ v. (r, v)) o
+
+abbrev pub AreRegistersDealtTo : ℕ → ℕ → List Value → List (ℕ × Value) → Type 0
+AreRegistersDealtTo n k all own = (i : ℕ) → slice_get own i ≡ numbered (k + i * n) (slice_get all (k + i * n))
+
+-- the territories of threads 0 to 63 again
+pub record AreGathered (n : ℕ) (owns : List (List TerritoryView)) (all : List TerritoryView) : Type 0 where
+  pub count : length all ≡ 64
+  pub each : (t : ℕ) → t < 64 → slice_get all t ≡ slice_get (own_at owns (t % n)) (t / n)
+
+-- sweeper k has as many as there are threads for it
+abbrev pub AreWhole : ℕ → List (List TerritoryView) → Type 0
+AreWhole n owns = (k i : ℕ) → k < n → (i < length (own_at owns k) → k + i * n < 64) × (k + i * n < 64 → i < length (own_at owns k))

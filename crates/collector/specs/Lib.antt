@@ -1,0 +1,4 @@
+pub mod Dealt
+pub mod Begun
+pub mod Swept
+pub mod Collected

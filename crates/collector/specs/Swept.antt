@@ -1,0 +1,36 @@
+-- Where a collection has ended.
+use Rattle.std.specs.Prelude.{◌≡◌, ℕ, ◌<◌, List, length, slice_get, slice_index, Some}
+use Rattle.gc_words.specs.declared.value.Value.{Value}
+use Rattle.territory.specs.declared.territory.Targets.{Targets}
+use Rattle.territory.specs.Territories.{TerritoryView}
+use Rattle.sweep_share.specs.Shares.{AreFinished}
+use Rattle.sweep_share.specs.Registers.{register_in}
+use Rattle.sweep_model.specs.Hands.{Hand}
+use Rattle.heap_store.specs.HeapView.{starts_in}
+use Rattle.heap_store.specs.Changes.{HaveSoundCards}
+use Rattle.heap_store.specs.Stands.{AreSettled}
+use Rattle.sweeper.specs.Sweepers.{SweeperView}
+use Rattle.sweep_rounds.specs.Turns.{sweeper_at}
+use Rattle.collect_model.specs.Worlds.{HasEnded, world_in}
+use Rattle.collector.specs.Dealt.{own_at}
+
+-- The sweepers were ended: each has its territories finished, and each register holds what its sweeper's holds.
+pub record AreEnded (sweepers : List SweeperView) (owns : List (List TerritoryView)) (before after : List Value)
+    : Type 0 where
+  pub count : length owns ≡ length sweepers
+  pub finished : (k : ℕ) (e : SweeperView) → k < length sweepers
+      → AreFinished (sweeper_at sweepers e k).share.territories (own_at owns k)
+  pub registers_count : length after ≡ length before
+  pub registers : (k r : ℕ) (e : SweeperView) (v : Value) → k < length sweepers → r < length before
+      → register_in (sweeper_at sweepers e k).registers r ≡ Some v → slice_get after r ≡ Some v
+
+-- The territories and registers of a collection that has ended, and how many objects each sweeper copied.
+pub record IsSwept (territories : List TerritoryView) (registers : List Value) (targets : Targets) (n : ℕ)
+    (new_territories : List TerritoryView) (new_registers : List Value) (counts : List ℕ) : Type 0 where
+  pub hands : ℕ → Hand
+  pub ended : HasEnded (world_in territories registers targets n) hands (starts_in new_territories) new_registers
+  pub settled : AreSettled new_territories
+  pub cards : HaveSoundCards new_territories
+  pub registers_count : length new_registers ≡ length registers
+  pub count : length counts ≡ n
+  pub copied : (k : ℕ) → k < n → slice_index counts k ≡ length (hands k).own

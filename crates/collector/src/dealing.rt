@@ -1,0 +1,113 @@
+//! Territories and registers are dealt out to sweepers: those of number k go to the sweeper of k modulo their number.
+
+ghost use Rattle.std.specs.Prelude.{◌≡◌, ℕ, ◌+◌, ◌<◌, ◌≤◌, [], ◌++◌, ◌∷◌, length, replicate, IfOk, OnErr};
+ghost use Rattle.collector.specs.Dealt.{AreDealt, AreRegistersDealtTo};
+
+use gc_words::Value;
+use std::alloc::{AllocError, Global};
+use std::marker::Model;
+use territory::Territory;
+
+/// The territories of one sweeper, in the order of their threads.
+#[derive(Drop)]
+pub(crate) struct OwnTerritories {
+    territories: Vec<Territory>,
+}
+
+impl Model for OwnTerritories {
+    ghost use Rattle.std.specs.Prelude.{List};
+    ghost use Rattle.std.specs.Coded.{coded_list};
+    ghost use Rattle.territory.specs.Territories.{TerritoryView, coded_territory};
+
+    ghost Value = { List TerritoryView };
+
+    ghost coded = { coded_list coded_territory };
+
+    ghost view = { λ o. o.territories.items };
+}
+
+impl OwnTerritories {
+    /// These territories.
+    pub(crate) fn new(territories: Vec<Territory>) -> OwnTerritories
+        ensures { result ≡ territories.items }
+    {
+        OwnTerritories { territories }
+    }
+
+    /// Puts a territory behind the others. Takes memory.
+    fn push(&mut self, territory: Territory) -> Result<(), AllocError>
+        ensures { OnOk result (self.new ≡ self.old ++ territory ∷ []) }
+    {
+        self.territories.push(territory)?;
+        Ok(())
+    }
+
+    /// Takes the last one, where there is one.
+    pub(crate) fn pop(&mut self) -> Option<Territory>
+        ensures some { IfSome result (λ t. self.old ≡ self.new ++ t ∷ []) }
+        ensures none { IfNone result (self.old ≡ []) }
+    {
+        self.territories.pop()
+    }
+
+    /// The territories, in order.
+    pub(crate) fn into_territories(self) -> Vec<Territory>
+        ensures { result.items ≡ self }
+    {
+        self.territories
+    }
+}
+
+/// A list without territories for each of `count` sweepers. Takes memory.
+fn none_yet(alloc: Global, count: u32) -> Result<Vec<OwnTerritories>, AllocError>
+    ensures { IfOk result (λ v. v.items ≡ replicate count []) }
+{
+    let mut owns = Vec::new(alloc);
+    for _ in 0..count {
+        owns.push(OwnTerritories::new(Vec::new(alloc)))?;
+    }
+    Ok(owns)
+}
+
+/// Deals all territories out to so many sweepers, in their order. Takes memory.
+pub(crate) fn deal_territories(
+    alloc: Global,
+    territories: Vec<Territory>,
+    sweepers: u32,
+) -> Result<Vec<OwnTerritories>, AllocError>
+    requires sweepers { (1 ≤ sweepers) × (sweepers ≤ 64) }
+    requires all { length territories.items ≡ 64 }
+    ensures { IfOk result (λ v. AreDealt sweepers territories.items v.items) }
+{
+    let mut owns = none_yet(alloc, sweepers)?;
+    let mut next = 0;
+    for territory in territories {
+        owns[next].push(territory)?;
+        next += 1;
+        if next == sweepers as usize {
+            next = 0;
+        }
+    }
+    Ok(owns)
+}
+
+/// The registers of a sweeper, each with its number. Takes memory.
+pub(crate) fn deal_registers(
+    alloc: Global,
+    registers: &[Value],
+    number: u32,
+    sweepers: u32,
+) -> Result<Vec<(u32, Value)>, AllocError>
+    requires number { number < sweepers }
+    requires sweepers { sweepers ≤ 64 }
+    requires all { length registers.now ≡ 4096 }
+    ensures { IfOk result (λ v. AreRegistersDealtTo sweepers number registers.now v.items) }
+{
+    let mut own = Vec::new(alloc);
+    let mut register = number;
+    while register < registers.len() as u32 {
+        own.push((register, registers[register as usize]))?;
+        register += sweepers;
+    }
+    Ok(own)
+}

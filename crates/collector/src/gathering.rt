@@ -1,0 +1,72 @@
+//! The territories and registers of all sweepers are put together again.
+
+ghost use Rattle.std.specs.Prelude.{◌≡◌, ℕ, ◌+◌, ◌*◌, ◌<◌, ◌≤◌, length, slice_index_or, IfOk};
+ghost use Rattle.sweep_share.specs.Registers.{item_at};
+ghost use Rattle.sweeper.specs.Sweepers.{SweeperView};
+ghost use Rattle.sweep_rounds.specs.Turns.{sweeper_at};
+ghost use Rattle.collector.specs.Dealt.{AreGathered, AreWhole};
+ghost use Rattle.collector.specs.Swept.{AreEnded, ArePut};
+
+use crate::dealing::OwnTerritories;
+use gc_words::Value;
+use std::alloc::{AllocError, Global};
+use sweeper::Sweeper;
+use territory::Territory;
+
+/// How many threads there are.
+const THREADS: usize = gc_words::THREADS as usize;
+
+/// Puts what a sweeper's registers hold where it belongs.
+fn put_registers(registers: &mut [Value], own: &[(u32, Value)])
+    requires within { (i : ℕ) → i < length own.now → (item_at own.now i).0 < length registers.old }
+    ensures { ArePut registers.old registers.new own.now }
+{
+    for (register, value) in own {
+        registers[*register as usize] = *value;
+    }
+}
+
+/// Ends the collection of each sweeper: the territories of each, in the order of the sweepers. The registers hold what
+/// the sweepers' registers hold. Takes memory.
+pub(crate) fn end_all(
+    alloc: Global,
+    sweepers: Vec<Sweeper>,
+    registers: &mut Vec<Value>,
+) -> Result<Vec<OwnTerritories>, AllocError>
+    requires within { (k i : ℕ) (e : SweeperView) → k < length sweepers.items
+        → i < length (sweeper_at sweepers.items e k).registers.items
+        → (item_at (sweeper_at sweepers.items e k).registers.items i).0 < length registers.old.items }
+    ensures { IfOk result (λ v. AreEnded sweepers.items v.items registers.old.items registers.new.items) }
+{
+    let mut owns = Vec::new(alloc);
+    for sweeper in sweepers {
+        let parts = sweeper.finish();
+        put_registers(registers, &parts.registers);
+        owns.push(OwnTerritories::new(parts.territories))?;
+    }
+    Ok(owns)
+}
+
+/// The territories of all threads, from those of the sweepers. Takes memory.
+pub(crate) fn gather_territories(
+    alloc: Global,
+    owns: Vec<OwnTerritories>,
+) -> Result<Vec<Territory>, AllocError>
+    requires some { 1 ≤ length owns.items }
+    requires whole { AreWhole (length owns.items) owns.items }
+    ensures { IfOk result (λ v. AreGathered (length owns.items) owns.items v.items) }
+{
+    let mut owns = owns;
+    let mut territories = Vec::new(alloc);
+    let mut thread = THREADS;
+    while thread > 0 {
+        thread -= 1;
+        let sweeper = thread % owns.len();
+        let Some(territory) = owns[sweeper].pop() else {
+            unreachable!()
+        };
+        territories.push(territory)?;
+    }
+    territories.reverse();
+    Ok(territories)
+}
