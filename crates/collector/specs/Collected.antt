@@ -21,6 +21,11 @@ abbrev pub arguments_in : ℕ → ℕ → CollectArgs → Arguments
 arguments_in oldest number Plain = plain_arguments oldest number
 arguments_in oldest number (Explicit cg least greatest) = record { cg = cg; least = least; greatest = greatest }
 
+-- how many plain collections there were, after one with these arguments that would have this number as a plain one
+abbrev pub counted_in : CollectArgs → ℕ → ℕ → ℕ
+counted_in Plain before number = number
+counted_in (Explicit cg least greatest) before number = before
+
 -- the answer without its report
 abbrev pub without_report : Result Report HeapError → Result (Unit {0}) HeapError
 without_report (Ok report) = Ok tt

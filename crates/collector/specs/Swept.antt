@@ -1,10 +1,10 @@
 -- Where a collection has ended.
-use Rattle.std.specs.Prelude.{◌≡◌, ℕ, ◌<◌, List, length, slice_get, slice_index, Some}
+use Rattle.std.specs.Prelude.{◌≡◌, ◌≢◌, ℕ, ◌<◌, List, length, slice_get, slice_index, Some}
 use Rattle.gc_words.specs.declared.value.Value.{Value}
 use Rattle.territory.specs.declared.territory.Targets.{Targets}
 use Rattle.territory.specs.Territories.{TerritoryView}
 use Rattle.sweep_share.specs.Shares.{AreFinished}
-use Rattle.sweep_share.specs.Registers.{register_in}
+use Rattle.sweep_share.specs.Registers.{item_at, register_in}
 use Rattle.sweep_model.specs.Hands.{Hand}
 use Rattle.heap_store.specs.HeapView.{starts_in}
 use Rattle.heap_store.specs.Changes.{HaveSoundCards}
@@ -23,6 +23,12 @@ pub record AreEnded (sweepers : List SweeperView) (owns : List (List TerritoryVi
   pub registers_count : length after ≡ length before
   pub registers : (k r : ℕ) (e : SweeperView) (v : Value) → k < length sweepers → r < length before
       → register_in (sweeper_at sweepers e k).registers r ≡ Some v → slice_get after r ≡ Some v
+
+-- the registers with each of these in its place
+pub record ArePut (old new : List Value) (own : List (ℕ × Value)) : Type 0 where
+  pub count : length new ≡ length old
+  pub put : (i : ℕ) → i < length own → slice_get new (item_at own i).0 ≡ Some (item_at own i).1
+  pub others : (r : ℕ) → ((i : ℕ) → i < length own → (item_at own i).0 ≢ r) → slice_get new r ≡ slice_get old r
 
 -- The territories and registers of a collection that has ended, and how many objects each sweeper copied.
 pub record IsSwept (territories : List TerritoryView) (registers : List Value) (targets : Targets) (n : ℕ)

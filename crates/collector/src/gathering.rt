@@ -1,6 +1,6 @@
 //! The territories and registers of all sweepers are put together again.
 
-ghost use Rattle.std.specs.Prelude.{◌≡◌, ℕ, ◌+◌, ◌*◌, ◌<◌, ◌≤◌, length, slice_index_or, IfOk};
+ghost use Rattle.std.specs.Prelude.{◌≢◌, ℕ, ◌<◌, ◌≤◌, length, IfOk};
 ghost use Rattle.sweep_share.specs.Registers.{item_at};
 ghost use Rattle.sweeper.specs.Sweepers.{SweeperView};
 ghost use Rattle.sweep_rounds.specs.Turns.{sweeper_at};
@@ -18,6 +18,7 @@ const THREADS: usize = gc_words::THREADS as usize;
 
 /// Puts what a sweeper's registers hold where it belongs.
 fn put_registers(registers: &mut [Value], own: &[(u32, Value)])
+    requires apart { (i j : ℕ) → i < j → j < length own.now → (item_at own.now i).0 ≢ (item_at own.now j).0 }
     requires within { (i : ℕ) → i < length own.now → (item_at own.now i).0 < length registers.old }
     ensures { ArePut registers.old registers.new own.now }
 {
