@@ -16,6 +16,7 @@ pub IsSound-raised : (p : Segment) (limit to : ℕ) → IsSound p → is_free p.
 IsSound-raised p limit to h used = record {
   small = h.small;
   births = h.births;
+  single = h.single;
   marks = h.marks;
   cards = λ some. length-raised_bytes limit to p.cards ∙ h.cards some;
   clean = λ u e. clean_at (raised_bytes limit to p.cards) e;

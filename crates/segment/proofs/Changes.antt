@@ -62,6 +62,7 @@ IsSound-put p k index w h bk i =
     record {
       small = omega (arith, l, h.small);
       births = omega (arith, l, h.births);
+      single = λ several. l ∙ h.single several;
       marks = h.marks;
       cards = λ some. rw l (h.cards some);
       clean = h.clean;
@@ -122,6 +123,7 @@ IsSound-grown p first size birth h is room =
     record {
       small = omega (arith, l, h.small);
       births = omega (arith, l, b, h.births);
+      single = λ several. l ∙ h.single (omega (arith, b));
       marks = h.marks ∙ sym b;
       cards = λ some. rw l (h.cards (omega (arith, b)));
       clean = h.clean;

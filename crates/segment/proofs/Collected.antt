@@ -18,6 +18,7 @@ IsSound-marked p word generation h used within small =
     record {
       small = h.small;
       births = h.births;
+      single = h.single;
       marks = h.marks;
       cards = λ some. l ∙ h.cards some;
       clean = λ u e. cc;
@@ -76,6 +77,7 @@ IsSound-kept p generation h aside =
     record {
       small = h.small;
       births = omega (arith, b, h.births);
+      single = λ several. h.single (omega (arith, b));
       marks = length-replicate {A = Bool} (length p.marks) false ∙ (h.marks ∙ sym b);
       cards = λ some. h.cards (omega (arith, b));
       clean = λ u e. h.clean used e;
@@ -91,6 +93,7 @@ pub IsSound-vacant : IsSound vacant
 IsSound-vacant = record {
   small = omega arith;
   births = omega arith;
+  single = λ several. absurd (omega arith);
   marks = refl;
   cards = λ some. absurd (omega arith);
   clean = λ u e card within. absurd (omega arith);
@@ -100,8 +103,8 @@ IsSound-vacant = record {
   laid = record { top_in = omega arith; even = refl; zero_above = λ i h. refl; loose = λ k h. refl; fit = λ k some. absurd (some refl); apart = λ j k lt some other. absurd (some refl) };
 }
 
-pub IsSound-opened : (s : Space) (generation words births : ℕ) → 2 * births ≤ words → words ≤ OFFSETS → IsSound (opened s generation words births)
-IsSound-opened s generation words births h small =
+pub IsSound-opened : (s : Space) (generation words births : ℕ) → 2 * births ≤ words → (1 < births → words ≡ 512) → words ≤ OFFSETS → IsSound (opened s generation words births)
+IsSound-opened s generation words births h single small =
     let lw : length (replicate {A = ℕ} words 0) ≡ words = length-replicate {A = ℕ} words 0 in
     let lb : length (replicate {A = ℕ} births 0) ≡ births = length-replicate {A = ℕ} births 0 in
     let lm : length (replicate {A = Bool} births false) ≡ births = length-replicate {A = Bool} births false in
@@ -109,6 +112,7 @@ IsSound-opened s generation words births h small =
     record {
       small = omega arith;
       births = omega arith;
+      single = λ several. lw ∙ single (omega arith);
       marks = lm ∙ sym lb;
       cards = λ some. lc ∙ ap card_count (sym lw);
       clean = λ u e card within. get_or-replicate (card_count words) card 255 0 (omega arith);
@@ -129,6 +133,7 @@ pub IsSound-aside : (p : Segment) → IsSound p → is_free p.role ≡ false →
 IsSound-aside p h used = record {
   small = h.small;
   births = h.births;
+  single = h.single;
   marks = h.marks;
   cards = h.cards;
   clean = λ u. h.clean used;
@@ -142,6 +147,7 @@ pub IsSound-held : (p : Segment) (k : ℕ) → IsSound p → p.role ≡ From →
 IsSound-held p k h aside = record {
   small = h.small;
   births = h.births;
+  single = h.single;
   marks = length-set p.marks k true ∙ h.marks;
   cards = h.cards;
   clean = h.clean;
@@ -155,6 +161,7 @@ IsSound-emptied : (p : Segment) → IsSound p → IsSound (emptied p)
 IsSound-emptied p h = record {
   small = omega arith;
   births = omega arith;
+  single = λ several. absurd (omega arith);
   marks = refl;
   cards = λ some. absurd (omega arith);
   clean = h.clean;
@@ -168,6 +175,7 @@ IsSound-freed : (p : Segment) → IsSound p → IsSound (record p { role = Free;
 IsSound-freed p h = record {
   small = h.small;
   births = h.births;
+  single = h.single;
   marks = h.marks;
   cards = h.cards;
   clean = λ u. cc;

@@ -112,6 +112,7 @@ IsSound-run p run birth h is room =
     record {
       small = omega (arith, l, h.small);
       births = omega (arith, l, b, h.births);
+      single = λ several. l ∙ h.single (omega (arith, b));
       marks = h.marks ∙ sym b;
       cards = λ some. rw l (h.cards (omega (arith, b)));
       clean = h.clean;

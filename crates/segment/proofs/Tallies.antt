@@ -69,15 +69,16 @@ fresh_count births n e = sym (ap count_of_births e ∙ count_none n)
 pub fresh_marks : (marks : List Bool) (n : ℕ) → marks ≡ replicate n false → false ≡ is_some_marked marks
 fresh_marks marks n e = sym (ap is_some_marked e ∙ none_marked n)
 
-pub renewed_seen : (p now : Segment) (n births : ℕ) (w b c : List ℕ) (m : List Bool) → IsSound p → p ≡ now → is_free now.role ≡ true → 2 * births ≤ n → n ≤ OFFSETS
+pub renewed_seen : (p now : Segment) (n births : ℕ) (w b c : List ℕ) (m : List Bool) → IsSound p → p ≡ now → is_free now.role ≡ true → 2 * births ≤ n → (1 < births → n ≡ 512) → n ≤ OFFSETS
     → w ≡ replicate n 0 → b ≡ replicate births 0 → c ≡ replicate (card_count n) 255 → m ≡ replicate births false
     → IsSound (record p { top = 0; words = w; births = b; cards = c; marks = m })
-renewed_seen p now n births w b c m h e free fit small ew eb ec em =
+renewed_seen p now n births w b c m h e free fit single small ew eb ec em =
     let free' : is_free p.role ≡ true = ap (λ (v : Segment). is_free v.role) e ∙ free in
-    let o : IsSound (opened p.space p.generation n births) = IsSound-opened p.space p.generation n births fit small in
+    let o : IsSound (opened p.space p.generation n births) = IsSound-opened p.space p.generation n births fit single small in
     let r : IsSound (renewed p n births) = record {
       small = o.small;
       births = o.births;
+      single = o.single;
       marks = o.marks;
       cards = o.cards;
       clean = λ u. cc;

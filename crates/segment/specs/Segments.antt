@@ -83,11 +83,13 @@ pub record IsLaid (p : Segment) : Type 0 where
   pub apart : (j k : ℕ) → j < k → slice_index p.births j ≢ 0 → slice_index p.births k ≢ 0
       → 2 * j + size_at p j ≤ 2 * k
 
--- Memory for a start each two words at most, a mark for each start and a card for each 64 words. A segment in
--- use is dirty where some card is not clean, and outside a collection it holds nothing.
+-- Memory for a start each two words at most, a mark for each start and a card for each 64 words. A segment that
+-- may have several starts has 512 words. A segment in use is dirty where some card is not clean, and outside a
+-- collection it holds nothing.
 pub record IsSound (p : Segment) : Type 0 where
   pub small : length p.words ≤ OFFSETS
   pub births : 2 * length p.births ≤ length p.words
+  pub single : 1 < length p.births → length p.words ≡ 512
   pub marks : length p.marks ≡ length p.births
   pub cards : 0 < length p.births → length p.cards ≡ card_count (length p.words)
   pub clean : is_free p.role ≡ false → p.is_dirty ≡ false

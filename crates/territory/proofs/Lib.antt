@@ -11,6 +11,7 @@ pub mod Opened
 pub mod Roomy
 pub mod Grown
 pub mod Reading
+pub mod Lying
 pub mod Allocated
 pub mod Putting
 pub mod Worded

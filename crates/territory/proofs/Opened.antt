@@ -52,10 +52,10 @@ words_fit p now e done =
     let t : IsSettled p = subst IsSettled (sym e) done in
     omega (arith, t.counted.words, t.count, sum_small used_words p.segments (λ n. used_small (numbered p.segments n) (t.sound n)))
 
-pub settled_opened : (p now old : PoolView) (n : ℕ) (s : Space) (g words births : ℕ) (q : Segment) (lists : List (List ℕ)) (to : ℕ) → p ≡ now → IsSettled now → IsTaken old now n → g < 9 → 2 * births ≤ words → words ≤ OFFSETS → q ≡ opened s g words births
+pub settled_opened : (p now old : PoolView) (n : ℕ) (s : Space) (g words births : ℕ) (q : Segment) (lists : List (List ℕ)) (to : ℕ) → p ≡ now → IsSettled now → IsTaken old now n → g < 9 → 2 * births ≤ words → (1 < births → words ≡ 512) → words ≤ OFFSETS → q ≡ opened s g words births
     → to ≡ g → lists ≡ moved p.lists 0 (1 + to) n → link_count lists ≡ link_count p.lists → EachOnce lists
     → IsSettled (record p { segments = set p.segments n q; lists = lists; counts = record p.counts { segment_words = p.counts.segment_words + words } })
-settled_opened p now old n s g words births q lists to e done taken small births_in words_in is to_is moved_is' links once =
+settled_opened p now old n s g words births q lists to e done taken small births_in single words_in is to_is moved_is' links once =
     let moved_is : lists ≡ moved p.lists 0 (1 + g) n = moved_is' ∙ ap (λ v. moved p.lists 0 (1 + v) n) to_is in
     let t : IsSettled p = subst IsSettled (sym e) done in
     let loose : IsIn p.lists 0 n = subst (λ (v : PoolView). IsIn v.lists 0 n) (sym e) taken.loose in
@@ -71,7 +71,7 @@ settled_opened p now old n s g words births q lists to e done taken small births
     refl (omega arith) (omega arith) (ap link_count (sym moved_is) ∙ links) (subst EachOnce moved_is once) loose in
     subst (λ v. IsSettled (record p { segments = set p.segments n v; lists = lists; counts = record p.counts { segment_words = p.counts.segment_words + words } })) (sym is) (record {
       count = omega (arith, length-set p.segments n o, t.count);
-      sound = each_set IsSound p.segments n o t.sound (IsSound-opened s g words births births_in words_in);
+      sound = each_set IsSound p.segments n o t.sound (IsSound-opened s g words births births_in single words_in);
       generations = each_set (λ (v : Segment). v.generation < 9) p.segments n o t.generations small;
       lengths = λ m k x h. spot_set p.segments n o t.lengths (λ j y h'. absurd (let z : None ≡ Some y = sym (spot_opened s g words births j) ∙ h' in cc)) m k x h;
       listed = subst (AreListed (set p.segments n o)) (sym moved_is) moved';

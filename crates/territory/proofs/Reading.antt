@@ -8,7 +8,7 @@ use Rattle.segment.specs.Segments.{Segment, Start, IsStart, object_at}
 use Rattle.segment.proofs.Spots.{spot_start, words_length}
 use Rattle.segment.proofs.Sizes.{HasLength_le}
 use Rattle.territory.specs.declared.territory.Targets.{Targets}
-use Rattle.territory.specs.Territories.{TerritoryView, IsShaped, HaveAddresses, words_of}
+use Rattle.territory.specs.Territories.{TerritoryView, IsShaped, AreShaped, HaveAddresses, words_of}
 use Rattle.territory.specs.Pools.{PoolView, IsSettled, numbered, territory_view}
 use Rattle.territory.proofs.Present.{IsPresent, present, born}
 
@@ -96,3 +96,9 @@ pub addresses : (thread : ℕ) (pool : PoolView) (targets : Targets) (now : Terr
 addresses thread pool targets now small s e = λ a x has.
     let p : IsPresent thread pool.segments a x = present thread pool a x s (ap (λ (v : TerritoryView). get v.starts a) e ∙ has) in
     ((omega (arith, p.address, p.within, s.count, p.small, small), omega (arith, p.address)), p.thread_is ∙ ap (λ (v : TerritoryView). v.thread) e)
+
+-- each start has the shape of its kind
+pub all_shaped : (thread : ℕ) (pool : PoolView) (targets : Targets) (now : TerritoryView) → IsSettled pool → territory_view thread pool targets ≡ now → AreShaped now
+all_shaped thread pool targets now s e = λ a x has.
+    let p : IsPresent thread pool.segments a x = present thread pool a x s (ap (λ (v : TerritoryView). get v.starts a) e ∙ has) in
+    subst IsShaped (sym p.object) (object_shaped pool (segment_of a) (offset_of a / 2) s p.starts)

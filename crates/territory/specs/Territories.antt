@@ -1,5 +1,5 @@
 -- What contracts see of a territory.
-use Rattle.std.specs.Prelude.{◌≡◌, ◌≢◌, ℕ, ◌+◌, ◌-◌, ◌*◌, ◌/◌, ◌<◌, ◌≤◌, ◌==◌, Bool, true, false, if◌then◌else◌, nat_lt, nat_le, List, [], ◌∷◌, length, map, is_some, min, replicate, slice_get, slice_index, slice_index_or, slice_set, ◌++◌, ◌⊎◌, Option, Some, None, option_map, IsSome, IsNone, IfSome, Contains, ◌&&◌, refl}
+use Rattle.std.specs.Prelude.{◌≡◌, ◌≢◌, ℕ, ◌+◌, ◌-◌, ◌*◌, ◌/◌, ◌%◌, ◌<◌, ◌≤◌, ◌==◌, Bool, true, false, if◌then◌else◌, nat_lt, nat_le, List, [], ◌∷◌, length, map, is_some, min, replicate, slice_get, slice_index, slice_index_or, slice_set, ◌++◌, ◌⊎◌, Option, Some, None, option_map, IsSome, IsNone, IfSome, Contains, ◌&&◌, refl}
 use Rattle.std.specs.List.{list_any, filter, flat_map, range_with_len}
 use Rattle.std.specs.Ordering.{nat_cmp}
 use Rattle.std.specs.FinMap.{FinMap, code, get, insert, empty}
@@ -144,6 +144,23 @@ pub record IsShaped (x : Start) : Type 0 where
 -- each start has an address of the territory's thread
 abbrev pub HaveAddresses : TerritoryView → Type 0
 HaveAddresses t = (a : ℕ) (x : Start) → get t.starts a ≡ Some x → IsAddress a × (thread_of a ≡ t.thread)
+
+-- The segment of what starts at a: of its generation, with the start within; and where it has not 512 words, the
+-- start is at its beginning.
+pub record HasStart (s : SegmentView) (a : ℕ) (x : Start) : Type 0 where
+  pub generation : s.generation ≡ x.generation
+  pub inside : offset_of a < s.words
+  pub place : ((s.words ≡ 512) × (offset_of a % 2 ≡ 0)) ⊎ (offset_of a ≡ 0)
+
+-- each start lies in a segment in use
+abbrev pub LieInSegments : TerritoryView → Type 0
+LieInSegments t =
+    (a : ℕ) (x : Start) → get t.starts a ≡ Some x
+    → (s : SegmentView) × (segment_at t (segment_of a) ≡ Some s) × HasStart s a x
+
+-- each start is shaped as its kind asks
+abbrev pub AreShaped : TerritoryView → Type 0
+AreShaped t = (a : ℕ) (x : Start) → get t.starts a ≡ Some x → IsShaped x
 
 -- the starts with one word of one start changed
 abbrev pub put_start : FinMap nat_cmp Start → ℕ → Option Start → ℕ → ℕ → FinMap nat_cmp Start

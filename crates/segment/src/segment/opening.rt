@@ -43,6 +43,7 @@ impl Segment {
     ) -> Result<(), AllocError>
         requires free { is_free self.old.role ≡ true }
         requires births_in { 2 * births ≤ words }
+        requires single { 1 < births → words ≡ 512 }
         requires some { 0 < births }
         requires words_in { words ≤ OFFSETS }
         ensures ok { OnOk result (self.new ≡ opened space generation words births) }
@@ -62,6 +63,7 @@ impl Segment {
     fn prepare(&mut self, words: usize, births: usize) -> Result<(), AllocError>
         requires free { is_free self.old.role ≡ true }
         requires births_in { 2 * births ≤ words }
+        requires single { 1 < births → words ≡ 512 }
         requires some { 0 < births }
         requires words_in { words ≤ OFFSETS }
         ensures ok { OnOk result (self.new ≡ renewed self.old words births) }
@@ -94,6 +96,7 @@ impl Segment {
     fn renew(&mut self, words: usize, births: usize) -> Result<(), AllocError>
         requires free { is_free self.old.role ≡ true }
         requires births_in { 2 * births ≤ words }
+        requires single { 1 < births → words ≡ 512 }
         requires words_in { words ≤ OFFSETS }
         ensures ok { OnOk result (self.new ≡ renewed self.old words births) }
         ensures err { OnErr result (self.new ≡ self.old) }

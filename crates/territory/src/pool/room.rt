@@ -44,6 +44,7 @@ impl Pool {
         requires settled { IsSettled self.old }
         requires generation_in { generation < 9 }
         requires births_in { 2 * births ≤ words }
+        requires single { 1 < births → words ≡ 512 }
         requires some { 0 < births }
         requires words_in { words ≤ OFFSETS }
         ensures settled { IsSettled self.new }

@@ -1,13 +1,15 @@
 //! What a collection does with a territory.
 
 ghost use Rattle.std.specs.Prelude.{◌≡◌, ℕ, ◌%◌, ◌≤◌, nat_le, if◌then◌else◌, slice_get, slice_index_or, option_map, Option, None, IfSome};
-ghost use Rattle.territory.specs.Territories.{segment_at, from_list, when_begun, AreListsBegun, AreCardsSound, AreFromOnes, IsFrom, IsNext};
+ghost use Rattle.territory.specs.Territories.{segment_at, from_list, when_begun, HaveAddresses, AreShaped, LieInSegments, AreListsBegun, AreCardsSound, AreFromOnes, IsFrom, IsNext};
 
 use super::{Targets, Territory};
 
 impl Territory {
     /// Sets the segments of the generations up to `cg` aside as from-segments and closes their areas, so
-    /// that what is allocated from now on lies elsewhere. Every start and word, and every card, stays.
+    /// that what is allocated from now on lies elsewhere. Every start and word, and every card, stays. It
+    /// tells where each start lies: in a segment in use, of the start's generation, at an address of the
+    /// thread.
     pub fn begin(&mut self, targets: Targets)
         requires least { targets.cg ≤ targets.min }
         requires greatest { targets.min ≤ targets.max }
@@ -23,6 +25,9 @@ impl Territory {
         ensures targets { self.new.targets ≡ targets }
         ensures sound { (generation_at : ℕ → Option ℕ)
             → AreCardsSound generation_at self.old → AreCardsSound generation_at self.new }
+        ensures addresses { HaveAddresses self.new }
+        ensures shaped { AreShaped self.new }
+        ensures lie { LieInSegments self.new }
     {
         self.pool.begin(targets.cg);
         self.targets = targets;

@@ -9,5 +9,5 @@ pub overflow_add-self : goal.overflow_add-self
 overflow_add-self c = omega (arith, words_fit _ _ c.self.view_is c.take_number.ensures.settled)
 
 pub returns-clause-settled : goal.returns-clause-settled
-returns-clause-settled c = settled_opened _ _ _ _ _ _ _ _ _ _ _ c.self.view_is c.take_number.ensures.settled c.in_ok-n.ensures.ok c.requires.generation_in c.requires.births_in c.requires.words_in
+returns-clause-settled c = settled_opened _ _ _ _ _ _ _ _ _ _ _ c.self.view_is c.take_number.ensures.settled c.in_ok-n.ensures.ok c.requires.generation_in c.requires.births_in c.requires.single c.requires.words_in
     c.in_ok-open.ensures.ok c.from.ensures c.push_last.ensures.lists c.push_last.ensures.links c.push_last.ensures.each_once

@@ -1,3 +1,6 @@
+use Rattle.std.proofs.Common.{refl}
+use Rattle.territory.proofs.Reading.{addresses, all_shaped}
+use Rattle.territory.proofs.Lying.{lie_in_segments}
 use Rattle.territory.proofs.Unheld.{between_begun}
 use Rattle.territory.proofs.BegunTerritory.{begun_used, begun_starts, begun_segments, begun_areas, begun_lists, begun_dirty, begun_sound}
 use Rattle.territory.proofs.territory.Territory.begin.Goals as goal
@@ -22,3 +25,12 @@ returns-clause-dirty c = begun_dirty _ _ _ _ _ _ c.self.view_is c.begin.ensures.
 
 pub returns-clause-sound : goal.returns-clause-sound
 returns-clause-sound c = λ generation_at. begun_sound _ _ _ _ c.args.targets _ c.args.targets.cg generation_at c.self.view_is c.self.invariant.1 c.begin.ensures.settled c.begin.ensures.begun
+
+pub returns-clause-addresses : goal.returns-clause-addresses
+returns-clause-addresses c = addresses _ _ c.args.targets _ c.self.invariant.0 c.begin.ensures.settled refl
+
+pub returns-clause-shaped : goal.returns-clause-shaped
+returns-clause-shaped c = all_shaped _ _ c.args.targets _ c.begin.ensures.settled refl
+
+pub returns-clause-lie : goal.returns-clause-lie
+returns-clause-lie c = lie_in_segments _ _ c.args.targets _ c.begin.ensures.settled refl
