@@ -13,6 +13,7 @@ use Rattle.heap_store.specs.declared.error.HeapError.{HeapError}
 use Rattle.heap_store.specs.HeapView.{HeapView}
 use Rattle.heap_store.specs.Stands.{Stands}
 use Rattle.heap_store.specs.Calls.{Obeys, IsValid, operand_value}
+use Rattle.heap_store.proofs.Plain.{plain_kept}
 use Rattle.heap_store.proofs.Standing.{well_formed_to, next_line, register_changed}
 use Rattle.heap_store.proofs.Operands.{operand_there, operand_read}
 
@@ -70,6 +71,7 @@ selected_valid h t less valid = record {
   state = record valid.state { thread = t };
   stands = thread_selected h valid.state t less valid.stands;
   cards = valid.cards;
+  plain = plain_kept h (record h { thread = t }) refl refl refl refl valid.plain;
 }
 
 -- ---- registers
@@ -97,6 +99,7 @@ moved_valid h old same n d v o number value fits valid = record {
   state = with_register valid.state d (states.operand_value valid.state o);
   stands = moved_to h valid.state n d v o number (value ∙ ap (λ (w : HeapView). operand_value w.registers o) (sym same)) fits valid.stands;
   cards = valid.cards;
+  plain = plain_kept h (record h { registers = set h.registers n v }) refl refl refl refl valid.plain;
 }
 
 -- ---- the version
@@ -138,6 +141,7 @@ versioned_valid h old same line first newer valid =
       state = record valid.state { version = 2 };
       stands = versioned h valid.state (omega (arith, ap (λ (v : HeapView). v.last) same)) valid.stands;
       cards = valid.cards;
+      plain = plain_kept h (record h { last = 1; version = 2 }) refl refl refl refl valid.plain;
     })
 
 pub no_version : (old : HeapView) (line : ℕ) → (line == 1) ≡ false → (s : State) → Stands old s → Obeys s (step s line Version) (Err (HeapError.Fault Fault.UnknownCommand)) old

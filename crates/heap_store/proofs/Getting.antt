@@ -29,6 +29,7 @@ use Rattle.heap_store.proofs.Bytes.{byte_of_bytes, bytes_small}
 use Rattle.heap_store.proofs.Making.{fields_by, fields_count}
 use Rattle.heap_store.proofs.Operands.{register_read}
 use Rattle.heap_store.proofs.Setting.{object_found}
+use Rattle.heap_store.proofs.Plain.{plain_kept}
 use Rattle.heap_store.proofs.Standing.{register_changed}
 
 -- ---- the value of a field
@@ -257,6 +258,7 @@ got_valid h valid d r i a v o len is here same less value =
       state = with_register valid.state d (read f (field_in (Some is.start) i));
       stands = register_changed h valid.state valid.stands d (field_in (Some is.start) i) (field_there f is.start i is.no_cell is.no_guardian laid (omega (arith, less, length_is)));
       cards = valid.cards;
+      plain = plain_kept h (record h { registers = set h.registers d (field_in (Some is.start) i) }) refl refl refl refl valid.plain;
     })
 
 -- for a heap that is seen so

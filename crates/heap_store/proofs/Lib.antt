@@ -1,5 +1,6 @@
 pub mod Kept
 pub mod Changed
+pub mod Plain
 pub mod Standing
 pub mod Bytes
 pub mod Territories

@@ -22,6 +22,7 @@ use Rattle.heap_store.specs.Roots.{level_of, read_note, IsNoteThere}
 use Rattle.heap_store.specs.HeapView.{HeapView, start_in, starts_in}
 use Rattle.heap_store.specs.Stands.{Stands}
 use Rattle.heap_store.specs.Registries.{level_count}
+use Rattle.heap_store.specs.Plain.{IsPlain}
 use Rattle.heap_store.specs.Opening.{AreNew}
 use Rattle.heap_store.specs.Changes.{HaveSoundCards}
 use Rattle.heap_store.proofs.Kept.{at_index}
@@ -174,6 +175,28 @@ module _ (territories : List TerritoryView) (new : AreNew territories 64) where
       } in
       subst (λ l. Stands (at l registry) (opening oldest)) (sym none)
       (subst (λ r. Stands (at [] r) (opening oldest)) (sym nothing) (opened_empty registers notes oldest nil_registers empty_notes low high))
+
+  pub opened_plain : (registers : List Value) (notes : List Noted) (locks : List (ℕ × ℕ)) (registry : List (List Registration)) (oldest : ℕ)
+      → notes ≡ replicate 256 note.Empty → locks ≡ [] → registry ≡ replicate level_count []
+      → IsPlain (record {
+        failed = false;
+        last = 0;
+        territories = territories;
+        registers = registers;
+        locks = locks;
+        notes = notes;
+        registry = registry;
+        thread = 0;
+        collects = 0;
+        oldest = oldest;
+        version = 1;
+      })
+  opened_plain registers notes locks registry oldest empty_notes none nothing = record {
+    kinds = λ a x here. absurd (none_there a x here);
+    locks = none;
+    notes = empty_notes;
+    registry = nothing;
+  }
 
   pub sound_cards : HaveSoundCards territories
   sound_cards i t e a index b h x there refers generation less = absurd (not_there i a x (ap (λ (u : TerritoryView). get u.starts a) (is_new i t e) ∙ there))

@@ -23,13 +23,14 @@ use Rattle.segment.specs.Segments.{Start}
 use Rattle.territory.specs.Territories as territory
 use Rattle.territory.specs.Territories.{TerritoryView, TellsLower, AreCardsSound}
 use Rattle.heap_store.specs.declared.error.HeapError.{HeapError}
-use Rattle.heap_store.specs.Starts.{Starts, is_cell, has_values, read, read_option, IsThere, IsThereOption, fields_of, object_of, IsLaidOut, Keeps}
+use Rattle.heap_store.specs.Starts.{Starts, is_cell, has_values, read, read_option, IsThere, IsThereOption, fields_of, object_of, IsLaidOut, Keeps, IsChanged}
 use Rattle.heap_store.specs.HeapView.{HeapView, start_in, starts_in, starts_of}
 use Rattle.heap_store.specs.Changes.{IsStartChanged, generation_at, HaveSoundCards}
 use Rattle.heap_store.specs.Stands.{Stands}
 use Rattle.heap_store.specs.Calls.{Obeys, IsValid, operand_value}
 use Rattle.heap_store.specs.Fields.{IsFielded, word_index, is_byte_word, generation_or_255, refers_of, put_fault, IsPut}
 use Rattle.heap_store.proofs.Changed.{keeps}
+use Rattle.heap_store.proofs.Plain.{plain_changed}
 use Rattle.heap_store.proofs.Territories.{is_changed}
 use Rattle.heap_store.proofs.Putting.{put_changed}
 use Rattle.heap_store.proofs.Cards.{rewritten_cards}
@@ -161,10 +162,11 @@ module _ (h : HeapView) (r a i : ℕ) (is : IsFielded h r a) (op : Operand) (v :
     sets_ok s line stands =
         subst (λ q. Obeys s q (Ok tt) (record h { territories = set_in })) (sym (set_is s stands line false true no_fault (lt-ltb i x.length put.within))) (sets_stand s stands)
 
+    in_heap : IsChanged f (starts_in set_in) a (record x { words = words })
+    in_heap = is_changed h.territories (thread_of a) old new found valid.stands.territories a (record x { words = words }) changed is.no_cell valid.stands.closed x there
+
     pub sets_kept : Keeps f (starts_in set_in)
-    sets_kept =
-        keeps f (starts_in set_in) a (record x { words = words })
-        (is_changed h.territories (thread_of a) old new found valid.stands.territories a (record x { words = words }) changed is.no_cell valid.stands.closed x there)
+    sets_kept = keeps f (starts_in set_in) a (record x { words = words }) in_heap
 
     -- the mark tells the generation of what the word refers to
     tells : TellsLower (generation_at f) (get old.starts a) put.put_word put.mark
@@ -189,4 +191,9 @@ module _ (h : HeapView) (r a i : ℕ) (is : IsFielded h r a) (op : Operand) (v :
     sets_cards = rewritten_cards h valid.state valid.stands valid.cards (thread_of a) old new found a (record x { words = words }) changed x there (put.sound (generation_at f) tells)
 
     pub sets_valid : IsValid (record h { territories = set_in })
-    sets_valid = record { state = with_field valid.state x.birth (object_of f a x []) i (states.operand_value valid.state op); stands = sets_stand valid.state valid.stands; cards = sets_cards }
+    sets_valid = record {
+      state = with_field valid.state x.birth (object_of f a x []) i (states.operand_value valid.state op);
+      stands = sets_stand valid.state valid.stands;
+      cards = sets_cards;
+      plain = plain_changed h (record h { territories = set_in }) a (record x { words = words }) in_heap (valid.plain.kinds a x is.here) refl refl refl valid.plain;
+    }

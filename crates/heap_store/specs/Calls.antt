@@ -12,6 +12,7 @@ use Rattle.heap_store.specs.Starts.{fields_of}
 use Rattle.heap_store.specs.HeapView.{HeapView, starts_of}
 use Rattle.heap_store.specs.Changes.{HaveSoundCards}
 use Rattle.heap_store.specs.Stands.{Stands}
+use Rattle.heap_store.specs.Plain.{IsPlain}
 
 -- What a call on a heap that stood for s leaves, by the answer of the command's step: the new state, or the
 -- fault and the state of before, or a heap that has failed for want of memory.
@@ -37,11 +38,12 @@ IsLeft (Ok _) old new = Unit {0}
 IsLeft (Err NoMemory) old new = new.failed ≡ true
 IsLeft (Err _) old new = new ≡ old
 
--- it stands for some state, and its cards are sound
+-- it stands for some state, its cards are sound, and it has only what the calls can make so far
 pub record IsValid (h : HeapView) : Type 0 where
   pub state : State
   pub stands : Stands h state
   pub cards : HaveSoundCards h.territories
+  pub plain : IsPlain h
 
 -- what an operand is, with the place of an object
 abbrev pub operand_value : List Value → Operand → Value

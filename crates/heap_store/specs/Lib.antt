@@ -5,10 +5,10 @@ pub mod Roots
 pub mod HeapView
 pub mod Changes
 pub mod Stands
-pub mod Calls
 pub mod Registries
+pub mod Plain
+pub mod Calls
 pub mod Opening
 pub mod Parts
 pub mod Fields
 pub mod Shapes
-pub mod Plain

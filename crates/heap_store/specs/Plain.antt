@@ -15,8 +15,8 @@ is_plain Vector = true
 is_plain Bytes = true
 is_plain _ = false
 
--- Each start is of such a kind, and nothing is locked, noted or registered: the calls that make, lock, note or register
--- anything else aren't built yet.
+-- Each start is of such a kind, and nothing is locked, noted or registered. The calls that make, lock, note
+-- or register more are not built yet.
 pub record IsPlain (h : HeapView) : Type 0 where
   pub kinds : (a : ℕ) (x : Start) → starts_of h a ≡ Some x → is_plain x.kind ≡ true
   pub locks : h.locks ≡ []

@@ -1,12 +1,12 @@
 //! The calls that make an object.
 
 ghost use Rattle.std.specs.Prelude.{◌≡◌, ◌==◌, ◌↔◌, ◌<◌, ◌≤◌, if◌then◌else◌, true, false, Ok, Err, OnOk, OnErr, IsTrue};
-ghost use Rattle.trace_types.specs.Values.{is_guardian};
 ghost use Rattle.trace_types.specs.Steps.{step};
 ghost use Rattle.trace_types.specs.WellFormed.{greatest_line, operand_fits};
-ghost use Rattle.heap_store.specs.Starts.{Keeps, IsLaidOut, is_cell};
+ghost use Rattle.heap_store.specs.Starts.{Keeps, IsLaidOut};
 ghost use Rattle.heap_store.specs.Shapes.{start_of, HasSize};
 ghost use Rattle.heap_store.specs.HeapView.{starts_of};
+ghost use Rattle.heap_store.specs.Plain.{is_plain};
 ghost use Rattle.heap_store.specs.Changes.{HaveSoundCards};
 ghost use Rattle.heap_store.specs.Calls.{Performs, IsLeft, HasMade};
 
@@ -143,15 +143,15 @@ impl Heap {
         if self.version == 2 { 4000000 } else { 1000000 }
     }
 
-    /// Makes an object of the current thread whose birth is the line, and puts it into a register.
+    /// Makes an object of a plain kind for the current thread, whose birth is the line, and puts it into a
+    /// register.
     fn make(&mut self, line: u32, d: Register, shape: Shape) -> Result<(), HeapError>
         requires alive { self.old.failed ≡ false }
         requires newer { self.old.last < line }
         requires line { line ≤ greatest_line }
         requires sized { HasSize shape }
         requires laid_out { IsLaidOut (starts_of self.old) (start_of line shape) }
-        requires no_cell { is_cell (start_of line shape).kind ≡ false }
-        requires no_guardian { is_guardian (start_of line shape).kind ≡ false }
+        requires plain { is_plain (start_of line shape).kind ≡ true }
         ensures stands { OnOk result (HasMade self.old self.new (start_of line shape) line d) }
         ensures kept { OnOk result (Keeps (starts_of self.old) (starts_of self.new)) }
         ensures cards { OnOk result (HaveSoundCards self.new.territories) }

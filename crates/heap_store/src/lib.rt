@@ -6,8 +6,9 @@
 //!
 //! Contracts see a `Heap` as its parts (`HeapView`), and say what it stands for: a heap `Stands` for a
 //! state where its starts are the state's objects by birth and all that refers to a birth there refers here
-//! to the one place with that birth. Its invariant: a heap that has not failed stands for some state, and
-//! its cards are sound.
+//! to the one place with that birth. Its invariant: a heap that has not failed stands for some state, its
+//! cards are sound, and it is plain (`IsPlain`), since the calls that make, lock, note or register more are
+//! not built yet.
 //!
 //! `new`, `cons`, `make_box`, `vector` and `bytes` take memory. No other call does.
 #![tactic(auto)]

@@ -50,6 +50,7 @@ impl Heap {
         ensures parts { seen_parts result ≡ self.old }
         ensures valid { IsValid (seen_parts result) }
         ensures failed { self.new.failed ≡ true }
+        ensures last { self.new.last ≡ self.old.last }
     {
         let alloc = *self.registers.allocator();
         self.failed = true;

@@ -1,5 +1,5 @@
 use Rattle.trace_types.specs.States.{opening}
-use Rattle.heap_store.proofs.Opening.{opened, sound_cards}
+use Rattle.heap_store.proofs.Opening.{opened, opened_plain, sound_cards}
 use Rattle.heap_store.proofs.heap.Heap.new.Goals as goal
 
 pub invariant_of-result : goal.invariant_of-result
@@ -7,6 +7,7 @@ invariant_of-result c = λ _. record {
   state = opening c.args.generations;
   stands = opened _ c.in_ok-territories.ensures _ _ _ _ c.args.generations c.in_ok-registers.ensures c.in_ok-notes.ensures c.new-2.ensures c.new-3.ensures c.requires.0 c.requires.1;
   cards = sound_cards _ c.in_ok-territories.ensures;
+  plain = opened_plain _ c.in_ok-territories.ensures _ _ _ _ c.args.generations c.in_ok-notes.ensures c.new-2.ensures c.new-3.ensures;
 }
 
 pub returns-clause-opening : goal.returns-clause-opening
