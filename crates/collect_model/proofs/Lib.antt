@@ -3,5 +3,8 @@ pub mod LeavingPlain
 pub mod LeavingGraph
 pub mod LeavingRoots
 pub mod Leaving
+pub mod Landing
+pub mod Rereading
+pub mod Fields
 pub mod Ending
 pub mod Counting
