@@ -27,12 +27,12 @@ pub record IsLeft (kept : List ℕ) (a : Arguments) (f g : Starts) (p : ℕ) (x 
   pub left : IsLeftOf kept a f g p x place start
 
 -- what starts at q in g is left of something in f that is kept
-pub record WasKept (kept : List ℕ) (a : Arguments) (f g : Starts) (q : ℕ) (y : Start) : Type 0 where
+pub record WasKept (set : List ℕ) (a : Arguments) (f g : Starts) (q : ℕ) (y : Start) : Type 0 where
   pub place : ℕ
   pub start : Start
   pub there : f place ≡ Some start
-  pub kept : IsTrue (has kept start.birth)
-  pub left : IsLeftOf kept a f g place start q y
+  pub kept : IsTrue (has set start.birth)
+  pub left : IsLeftOf set a f g place start q y
 
 -- what starts in g is what is left of the kept starts of f, each at one place
 pub record AreLeft (kept : List ℕ) (a : Arguments) (f g : Starts) : Type 0 where

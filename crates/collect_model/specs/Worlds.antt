@@ -34,7 +34,7 @@ arguments_of targets = record { cg = targets.cg; least = targets.min; greatest =
 
 -- The sweepers have come to their end. What starts afterwards, g, is what they have: older objects where they were, and
 -- copies at their places. The registers hold what the sweepers' registers hold.
-pub record HasEnded (world : World) (hands : ℕ → Hand) (g : Starts) (registers : List Value) : Type 0 where
+pub record HasEnded (world : World) (hands : ℕ → Hand) (g : Starts) (held : List Value) : Type 0 where
   pub setting : Setting
   pub is_setting : IsSettingOf world setting
   pub state : State
@@ -48,5 +48,5 @@ pub record HasEnded (world : World) (hands : ℕ → Hand) (g : Starts) (registe
   pub only : (p : ℕ) (y : Start) → g p ≡ Some y
       → (IsSome (world.image p) × (is_collected world p ≡ false))
       ⊎ ((x : ℕ) × Contains (hands (owner world.sweepers x)).own (x, p))
-  pub registers : (r : ℕ) (v : Value) → slice_get registers r ≡ Some v
+  pub registers : (r : ℕ) (v : Value) → slice_get held r ≡ Some v
       → (hands (holder_of world.sweepers (back.Register r))).register r ≡ Some v
