@@ -1,3 +1,9 @@
+pub mod Members
+pub mod Accessible
+pub mod Fields
+pub mod Graph
+pub mod Reaching
+pub mod Keeping
 pub mod Reached
 pub mod LeavingPlain
 pub mod LeavingGraph
@@ -5,6 +11,6 @@ pub mod LeavingRoots
 pub mod Leaving
 pub mod Landing
 pub mod Rereading
-pub mod Fields
+pub mod FieldsAgain
 pub mod Ending
 pub mod Counting
