@@ -1,3 +1,9 @@
+pub mod Members
+pub mod Accessible
+pub mod References
+pub mod Graph
+pub mod Reaching
+pub mod Keeping
 pub mod Reached
 pub mod Leaving
 pub mod Ending
