@@ -7,4 +7,5 @@ pub mod Keeping
 pub mod Reached
 pub mod Leaving
 pub mod Ending
+pub mod Lengths
 pub mod Counting
