@@ -1,175 +1,171 @@
--- The fields of a plain start: which of them refer to an object, and to which.
-use Rattle.std.proofs.Common.{◌≡◌, ℕ, ◌==◌, ◌⊎◌, pos, true, false, cond, List, [], map, get_or, length, IsTrue, IsSome, Option, Some, None, refl, sym, ◌∙◌, ap, subst, inl, inr}
+-- The fields of an object read as before, and its words are laid out, where it stands in the end.
+use Rattle.std.proofs.Common.{◌≡◌, ℕ, ◌<◌, ◌≤◌, Bool, true, false, cond, List, [], map, length, get_or, pos, IsTrue, None, refl, sym, ◌∙◌, ap, subst, inl, inr, ◌⊎◌}
 use Rattle.std.specs.List.{AllByRecursion}
-use Rattle.std.proofs.lemmas.Bool.{eqb-true, false≢true, or_cases, cond-true, cond-false}
-use Rattle.std.proofs.lemmas.Option.{none-some, same_Some, slice_get-get_or, get_or_from_slice_get}
+use Rattle.std.proofs.lemmas.Bool.{both_ways, cond-false, cond-true, false≢true}
+use Rattle.std.proofs.lemmas.Grind.{same_number_lists}
 use Rattle.gc_words.specs.declared.value.Value.{Value}
-use Rattle.gc_words.specs.declared.value.Value.TheVariants as word
 use Rattle.gc_words.specs.Word.{value_of}
 use Rattle.trace_types.specs.declared.kind.Kind.{Kind}
 use Rattle.trace_types.specs.declared.kind.Kind.TheVariants as kind
 use Rattle.trace_types.specs.Values as values
-use Rattle.trace_types.specs.Values.{objects_in, has_bytes, is_ephemeron, is_guardian, strong_fields}
-use Rattle.trace_types.specs.Rules.{has}
+use Rattle.trace_types.specs.Values.{fixnum, has_bytes, is_guardian}
+use Rattle.trace_types.specs.Collections.{fields_left}
+use Rattle.segment.specs.Layout.{HasLength, words_after}
 use Rattle.segment.specs.Segments.{Start}
-use Rattle.sweep_model.specs.World.{is_strong, strong_value, object_in}
-use Rattle.sweep_model.proofs.Names.{word_in}
-use Rattle.heap_store.specs.Starts.{Starts, is_cell, has_values, birth_of, bytes_of, read, read_option, read_word, fields_of, IsThere, IsThereOption, IsWordThere}
+use Rattle.gc_mail.specs.declared.message.Slot.TheVariants as back
+use Rattle.sweep_model.specs.World.{World, IsWorld, asks, if_collected, is_strong, object_in, strong_value}
+use Rattle.sweep_model.specs.Hands.{Hand, field_of}
+use Rattle.heap_store.specs.Starts.{Starts, IsLaidOut, IsWordThere, byte_at, bytes_of, fields_of, has_values, read_word}
 use Rattle.heap_store.specs.Plain.{is_plain}
-use Rattle.heap_store.proofs.Kept.{object_some}
-use Rattle.collect_model.proofs.Members.{each_at, has_one, object_from, object_there}
+use Rattle.collect_model.specs.Worlds.{HasEnded}
+use Rattle.collect_model.proofs.Landing.{Lands}
+use Rattle.collect_model.proofs.Rereading.{ReadsAs, reads_again, word_there, words_again}
 
 -- ---- kinds
 
--- what is not of a plain kind, and that its fields are strong
-pub record IsSimple (k : Kind) : Type 0 where
-  pub no_cell : is_cell k ≡ false
-  pub no_guardian : is_guardian k ≡ false
-  pub no_ephemeron : is_ephemeron k ≡ false
-  pub strong : (fields : List values.Value) → strong_fields k fields ≡ fields
+-- all words of such a kind are strong fields
+record HasFields (k : Kind) : Type 0 where
+  strong : (i : ℕ) → is_strong k i ≡ true
+  values : has_values k ≡ true
+  no_bytes : has_bytes k ≡ false
+  no_guardian : is_guardian k ≡ false
 
-pub simple : (k : Kind) → is_plain k ≡ true → IsSimple k
-simple kind.Pair is =
-    record { no_cell = refl; no_guardian = refl; no_ephemeron = refl; strong = λ fields. refl }
-simple kind.Boxed is =
-    record { no_cell = refl; no_guardian = refl; no_ephemeron = refl; strong = λ fields. refl }
-simple kind.Vector is =
-    record { no_cell = refl; no_guardian = refl; no_ephemeron = refl; strong = λ fields. refl }
-simple kind.Bytes is =
-    record { no_cell = refl; no_guardian = refl; no_ephemeron = refl; strong = λ fields. refl }
-simple kind.Weak is = absurd (false≢true is)
-simple kind.Eph is = absurd (false≢true is)
-simple kind.ImmVector is = absurd (false≢true is)
-simple kind.ImmBytes is = absurd (false≢true is)
-simple kind.Guard is = absurd (false≢true is)
-simple kind.OrderedGuard is = absurd (false≢true is)
-simple kind.Cell is = absurd (false≢true is)
+-- no word of such a kind is one
+record HasBytes (k : Kind) : Type 0 where
+  weak : (i : ℕ) → is_strong k i ≡ false
+  no_values : has_values k ≡ false
+  bytes : has_bytes k ≡ true
 
--- all words are strong fields, or none is a field
-bytes_or_values : (k : Kind) → is_plain k ≡ true
-    → ((has_bytes k ≡ true) × ((i : ℕ) → is_strong k i ≡ false))
-    ⊎ ((has_bytes k ≡ false) × IsTrue (has_values k) × ((i : ℕ) → is_strong k i ≡ true))
-bytes_or_values kind.Pair is = inr (refl, refl, λ i. refl)
-bytes_or_values kind.Boxed is = inr (refl, refl, λ i. refl)
-bytes_or_values kind.Vector is = inr (refl, refl, λ i. refl)
-bytes_or_values kind.Bytes is = inl (refl, λ i. refl)
-bytes_or_values kind.Weak is = absurd (false≢true is)
-bytes_or_values kind.Eph is = absurd (false≢true is)
-bytes_or_values kind.ImmVector is = absurd (false≢true is)
-bytes_or_values kind.ImmBytes is = absurd (false≢true is)
-bytes_or_values kind.Guard is = absurd (false≢true is)
-bytes_or_values kind.OrderedGuard is = absurd (false≢true is)
-bytes_or_values kind.Cell is = absurd (false≢true is)
+plain_cases : (k : Kind) → is_plain k ≡ true → HasFields k ⊎ HasBytes k
+plain_cases kind.Pair is =
+    inl (record { strong = λ i. refl; values = refl; no_bytes = refl; no_guardian = refl })
+plain_cases kind.Boxed is =
+    inl (record { strong = λ i. refl; values = refl; no_bytes = refl; no_guardian = refl })
+plain_cases kind.Vector is =
+    inl (record { strong = λ i. refl; values = refl; no_bytes = refl; no_guardian = refl })
+plain_cases kind.Bytes is = inr (record { weak = λ i. refl; no_values = refl; bytes = refl })
+plain_cases kind.Weak is = absurd (false≢true is)
+plain_cases kind.Eph is = absurd (false≢true is)
+plain_cases kind.ImmVector is = absurd (false≢true is)
+plain_cases kind.ImmBytes is = absurd (false≢true is)
+plain_cases kind.Guard is = absurd (false≢true is)
+plain_cases kind.OrderedGuard is = absurd (false≢true is)
+plain_cases kind.Cell is = absurd (false≢true is)
 
--- ---- values
+-- such objects keep their fields
+pub all_left : (set : List ℕ) (k : Kind) (fields : List values.Value) → is_plain k ≡ true
+    → fields_left set k fields ≡ fields
+all_left set kind.Pair fields is = refl
+all_left set kind.Boxed fields is = refl
+all_left set kind.Vector fields is = refl
+all_left set kind.Bytes fields is = refl
+all_left set kind.Weak fields is = absurd (false≢true is)
+all_left set kind.Eph fields is = absurd (false≢true is)
+all_left set kind.ImmVector fields is = absurd (false≢true is)
+all_left set kind.ImmBytes fields is = absurd (false≢true is)
+all_left set kind.Guard fields is = absurd (false≢true is)
+all_left set kind.OrderedGuard fields is = absurd (false≢true is)
+all_left set kind.Cell fields is = absurd (false≢true is)
 
--- the object that an optional value is
-pub place_is : (o : Option Value) (q : ℕ) → object_in o ≡ Some q → o ≡ Some (word.Object q)
-place_is (Some (word.Object a)) q e = ap (λ z. Some (word.Object z)) (same_Some a q e)
-place_is (Some (word.Fixnum n)) q e = absurd (none-some q e)
-place_is (Some word.Nil) q e = absurd (none-some q e)
-place_is (Some word.True) q e = absurd (none-some q e)
-place_is (Some word.False) q e = absurd (none-some q e)
-place_is (Some word.Bwp) q e = absurd (none-some q e)
-place_is None q e = absurd (none-some q e)
+-- ---- how fields read
 
-module _ (f : Starts) where
-  -- a value that reads as an object is one
-  pub read_from : (v : Value) (y : ℕ) → IsTrue (has (values.object_in (read f v)) y)
-      → (q : ℕ) × (v ≡ word.Object q) × (birth_of (f q) ≡ y)
-  read_from (word.Object q) y h = elim (or_cases (birth_of (f q) == y) false h) [
-    | inl e ↦ (q, refl, eqb-true (birth_of (f q)) y e)
-    | inr none ↦ absurd (false≢true none)
+abbrev byte_fields : Start → List values.Value
+byte_fields x = map (λ b. fixnum (pos b)) (bytes_of x.words x.length)
+
+fields_of-bytes : (f : Starts) (x : Start) → has_bytes x.kind ≡ true → fields_of f x ≡ byte_fields x
+fields_of-bytes f x bytes =
+    cond-true (has_bytes x.kind) (byte_fields x) (cond (is_guardian x.kind) [] (map (read_word f) x.words))
+    bytes
+
+fields_of-values : (f : Starts) (x : Start) → HasFields x.kind → fields_of f x ≡ map (read_word f) x.words
+fields_of-values f x has =
+    cond-false (has_bytes x.kind) (byte_fields x) (cond (is_guardian x.kind) [] (map (read_word f) x.words))
+    has.no_bytes
+    ∙ cond-false (is_guardian x.kind) [] (map (read_word f) x.words) has.no_guardian
+
+-- ---- an object in the end
+
+-- the fields of y in g read as those of x in f, and its words are laid out
+pub record IsAgain (f g : Starts) (x y : Start) : Type 0 where
+  pub fields : fields_of g y ≡ fields_of f x
+  pub laid_out : IsLaidOut g y
+
+same_size : (k k' : Kind) (m n : ℕ) → k' ≡ k → n ≡ m → HasLength k m → HasLength k' n
+same_size k k' m n kind size has = rw (kind, size) has
+
+-- it is laid out where its words are there and nothing but zeros follows its bytes
+laid_again : (f g : Starts) (x y : Start) → y.kind ≡ x.kind → y.length ≡ x.length
+    → length y.words ≡ length x.words → IsLaidOut f x
+    → (IsTrue (has_values y.kind) → AllByRecursion (IsWordThere g) y.words)
+    → (IsTrue (has_bytes y.kind) → (i : ℕ) → y.length ≤ i → byte_at y.words i ≡ 0) → IsLaidOut g y
+laid_again f g x y kind size count laid values padding = record {
+  sized = same_size x.kind y.kind x.length y.length kind size laid.sized;
+  words = count ∙ laid.words ∙ (λ i. words_after (sym kind i) (sym size i));
+  values = values;
+  padding = padding;
+}
+
+module _ (world : World) (hands : ℕ → Hand) (g : Starts) (registers : List Value) (good : IsWorld world)
+    (ended : HasEnded world hands g registers) (x p : ℕ) (l : Lands world hands g x p) where
+  abbrev old : Start
+  old = l.kept.old
+
+  abbrev new : Start
+  new = l.kept.new
+
+  -- the value of a field
+  strong_is : (i : ℕ) (b : Bool) → is_strong old.kind i ≡ b
+      → strong_value (world.image x) i ≡ cond b (value_of (get_or old.words i 0)) None
+  strong_is i b is = ap (λ o. strong_value o i) l.kept.was
+      ∙ ap (λ z. cond z (value_of (get_or old.words i 0)) None) is
+
+  -- each word with a value reads as before
+  word_again : HasFields old.kind → AllByRecursion (IsWordThere world.image) old.words → (i : ℕ)
+      → i < length old.words
+      → ReadsAs world.image g (value_of (get_or old.words i 0)) (value_of (get_or new.words i 0))
+  word_again has there i below =
+      reads_again world hands g registers good ended
+      (value_of (get_or old.words i 0)) (value_of (get_or new.words i 0)) (asks world (back.Field x i))
+      (word_there world.image old.words there i below)
+      (sym (ap (λ o. if_collected world (object_in o)) (strong_is i true (has.strong i))))
+      (λ none. ap value_of (l.kept.plain i none))
+      (λ t wants.
+      let f = ended.done.fields x p i t l.at wants in
+      (f.0, f.1, sym (ap (λ o. field_of o i) l.kept.is) ∙ f.2))
+
+  values_are : HasFields old.kind → IsLaidOut world.image old → IsAgain world.image g old new
+  values_are has laid =
+      let has_new : HasFields new.kind = subst HasFields (sym l.kept.kind) has in
+      let words = words_again world.image g old.words new.words l.kept.words
+      (word_again has (laid.values has.values)) in
+      record {
+        fields = fields_of-values g new has_new ∙ words.1 ∙ sym (fields_of-values world.image old has);
+        laid_out = laid_again world.image g old new l.kept.kind l.kept.size l.kept.words laid (λ v. words.0)
+            (λ bytes. absurd (both_ways (has_bytes new.kind) has_new.no_bytes bytes));
+      }
+
+  -- where no word is a field, all are the same
+  same_words : HasBytes old.kind → new.words ≡ old.words
+  same_words has = same_number_lists new.words old.words l.kept.words (λ i below.
+      l.kept.plain i (ap (λ o. if_collected world (object_in o)) (strong_is i false (has.weak i))))
+
+  bytes_are : HasBytes old.kind → IsLaidOut world.image old → IsAgain world.image g old new
+  bytes_are has laid =
+      let has_new : HasBytes new.kind = subst HasBytes (sym l.kept.kind) has in
+      record {
+        fields = fields_of-bytes g new has_new.bytes
+            ∙ (λ i. map (λ b. fixnum (pos b)) (bytes_of (same_words has i) (l.kept.size i)))
+            ∙ sym (fields_of-bytes world.image old has.bytes);
+        laid_out = laid_again world.image g old new l.kept.kind l.kept.size l.kept.words laid
+            (λ v. absurd (both_ways (has_values new.kind) has_new.no_values v))
+            (λ bytes i past. ap (λ ws. byte_at ws i) (same_words has)
+            ∙ laid.padding has.bytes i (subst (λ n. n ≤ i) l.kept.size past));
+      }
+
+  -- an object of either sort is as it was
+  pub again : is_plain l.kept.old.kind ≡ true → IsLaidOut world.image l.kept.old
+      → IsAgain world.image g l.kept.old l.kept.new
+  again is laid = elim (plain_cases old.kind is) [
+    | inl has ↦ values_are has laid
+    | inr has ↦ bytes_are has laid
   ]
-  read_from (word.Fixnum n) y h = absurd (false≢true h)
-  read_from word.Nil y h = absurd (false≢true h)
-  read_from word.True y h = absurd (false≢true h)
-  read_from word.False y h = absurd (false≢true h)
-  read_from word.Bwp y h = absurd (false≢true h)
-
-  option_from : (o : Option Value) (y : ℕ) → IsTrue (has (values.object_in (read_option f o)) y)
-      → (q : ℕ) × (o ≡ Some (word.Object q)) × (birth_of (f q) ≡ y)
-  option_from None y h = absurd (false≢true h)
-  option_from (Some v) y h = let r = read_from v y h in (r.0, ap Some r.1, r.2)
-
-  pub place_there : (v : Value) (q : ℕ) → IsThere f v → v ≡ word.Object q → IsSome (f q)
-  place_there v q there e = object_some (f q) (subst (IsThere f) e there)
-
-  option_there : (o : Option Value) (q : ℕ) → IsThereOption f o → o ≡ Some (word.Object q) → IsSome (f q)
-  option_there None q there e = absurd there
-  option_there (Some v) q there e = place_there v q there (same_Some v (word.Object q) e)
-
-  -- ---- words
-
-  word_from : (ws : List ℕ) (y : ℕ) → AllByRecursion (IsWordThere f) ws
-      → IsTrue (has (objects_in (map (read_word f) ws)) y)
-      → (i : ℕ) × (q : ℕ) × (value_of (get_or ws i 0) ≡ Some (word.Object q)) × (birth_of (f q) ≡ y)
-      × IsSome (f q)
-  word_from ws y all h =
-      let r = object_from (read_word f) ws y h in
-      let o = option_from (value_of r.1) y r.3 in (
-        r.0,
-        o.0,
-        ap value_of (get_or_from_slice_get ws r.0 r.1 0 r.2) ∙ o.1,
-        o.2,
-        option_there (value_of r.1) o.0 (each_at (IsWordThere f) ws r.0 r.1 all r.2) o.1,
-      )
-
-  word_there : (ws : List ℕ) (i q : ℕ) → object_in (value_of (get_or ws i 0)) ≡ Some q
-      → IsTrue (has (objects_in (map (read_word f) ws)) (birth_of (f q)))
-  word_there ws i q e =
-      let is : value_of (get_or ws i 0) ≡ Some (word.Object q) = place_is _ q e in
-      let y = birth_of (f q) in
-      object_there (read_word f) ws i (get_or ws i 0) y (slice_get-get_or ws i 0 (word_in ws i q e))
-      (subst (λ o. IsTrue (has (values.object_in (read_option f o)) y)) (sym is) (has_one y))
-
-  -- bytes refer to nothing
-  no_byte_refers : (bs : List ℕ) (y : ℕ) → IsTrue (has (objects_in (map (λ b. values.fixnum (pos b)) bs)) y) → ⊥
-  no_byte_refers bs y h = false≢true (object_from (λ b. values.fixnum (pos b)) bs y h).3
-
-  -- ---- fields
-
-  module _ (x : Start) (plain : is_plain x.kind ≡ true) where
-    abbrev words_read : List values.Value
-    words_read = map (read_word f) x.words
-
-    abbrev bytes_read : List values.Value
-    bytes_read = map (λ b. values.fixnum (pos b)) (bytes_of x.words x.length)
-
-    fields_bytes : has_bytes x.kind ≡ true → fields_of f x ≡ bytes_read
-    fields_bytes is = cond-true (has_bytes x.kind) bytes_read (cond (is_guardian x.kind) [] words_read) is
-
-    fields_words : has_bytes x.kind ≡ false → fields_of f x ≡ words_read
-    fields_words is =
-        cond-false (has_bytes x.kind) bytes_read (cond (is_guardian x.kind) [] words_read) is
-        ∙ cond-false (is_guardian x.kind) [] words_read (simple x.kind plain).no_guardian
-
-    strong_is : (i : ℕ) → is_strong x.kind i ≡ true → strong_value (Some x) i ≡ value_of (get_or x.words i 0)
-    strong_is i is = cond-true (is_strong x.kind i) (value_of (get_or x.words i 0)) None is
-
-    strong_none : (i : ℕ) → is_strong x.kind i ≡ false → strong_value (Some x) i ≡ None
-    strong_none i is = cond-false (is_strong x.kind i) (value_of (get_or x.words i 0)) None is
-
-    -- a field that refers to an object is a strong one, and the object is somewhere
-    pub field_from : (IsTrue (has_values x.kind) → AllByRecursion (IsWordThere f) x.words) → (y : ℕ)
-        → IsTrue (has (objects_in (fields_of f x)) y)
-        → (i : ℕ) × (q : ℕ) × (object_in (strong_value (Some x) i) ≡ Some q) × (birth_of (f q) ≡ y)
-        × IsSome (f q)
-    field_from laid y h = elim (bytes_or_values x.kind plain) [
-      | inl bytes ↦ absurd (no_byte_refers (bytes_of x.words x.length) y
-          (subst (λ vs. IsTrue (has (objects_in vs) y)) (fields_bytes bytes.0) h))
-      | inr values ↦
-          let r = word_from x.words y (laid values.1)
-          (subst (λ vs. IsTrue (has (objects_in vs) y)) (fields_words values.0) h) in
-          (r.0, r.1, ap object_in (strong_is r.0 (values.2 r.0) ∙ r.2), r.3, r.4)
-    ]
-
-    -- and a strong field that refers to an object is among the fields
-    pub field_there : (i q : ℕ) → object_in (strong_value (Some x) i) ≡ Some q
-        → IsTrue (has (objects_in (fields_of f x)) (birth_of (f q)))
-    field_there i q e = elim (bytes_or_values x.kind plain) [
-      | inl bytes ↦ absurd (none-some q (sym (ap object_in (strong_none i (bytes.1 i))) ∙ e))
-      | inr values ↦
-          subst (λ vs. IsTrue (has (objects_in vs) (birth_of (f q)))) (sym (fields_words values.0))
-          (word_there x.words i q (ap object_in (sym (strong_is i (values.2 i))) ∙ e))
-    ]

@@ -18,7 +18,7 @@ use Rattle.heap_store.specs.Roots.{by_line, read_registration}
 use Rattle.heap_store.specs.HeapView.{HeapView, starts_of}
 use Rattle.heap_store.specs.Plain.{IsPlain}
 use Rattle.heap_store.specs.Stands.{Stands}
-use Rattle.collect_model.proofs.Fields.{simple}
+use Rattle.collect_model.proofs.References.{simple}
 
 -- ---- lists by keys
 

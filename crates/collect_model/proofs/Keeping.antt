@@ -29,7 +29,7 @@ use Rattle.heap_store.specs.HeapView.{HeapView, starts_of}
 use Rattle.heap_store.specs.Plain.{IsPlain}
 use Rattle.heap_store.specs.Stands.{Stands}
 use Rattle.collect_model.specs.Worlds.{world_of}
-use Rattle.collect_model.proofs.Fields.{field_there, place_is, simple}
+use Rattle.collect_model.proofs.References.{field_there, place_is, simple}
 use Rattle.collect_model.proofs.Graph.{found_contains, start_found}
 use Rattle.collect_model.proofs.Members.{contains_has, has_mapped, has_one, object_there}
 

@@ -1,6 +1,6 @@
 pub mod Members
 pub mod Accessible
-pub mod Fields
+pub mod References
 pub mod Graph
 pub mod Reaching
 pub mod Keeping
@@ -11,6 +11,7 @@ pub mod LeavingRoots
 pub mod Leaving
 pub mod Landing
 pub mod Rereading
-pub mod FieldsAgain
+pub mod Fields
 pub mod Ending
+pub mod Lengths
 pub mod Counting

@@ -27,7 +27,7 @@ use Rattle.heap_store.specs.Stands.{Stands}
 use Rattle.heap_store.proofs.Kept.{some_is}
 use Rattle.collect_model.specs.Worlds.{world_of}
 use Rattle.collect_model.proofs.Accessible.{kept_accessible}
-use Rattle.collect_model.proofs.Fields.{field_from, place_there, read_from, simple}
+use Rattle.collect_model.proofs.References.{field_from, place_there, read_from, simple}
 use Rattle.collect_model.proofs.Graph.{contains_found, nothing_locked, nothing_registered, object_placed, one_place}
 use Rattle.collect_model.proofs.Members.{contains_has, each_at, has_contains, has_mapped, mapped_from, object_from}
 

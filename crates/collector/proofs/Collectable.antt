@@ -25,7 +25,7 @@ use Rattle.heap_store.proofs.Kept.{object_some}
 use Rattle.heap_store.proofs.Plain.{plain_no_cell}
 use Rattle.collect_model.specs.Worlds.{arguments_of}
 use Rattle.collect_model.proofs.Members.{each_at}
-use Rattle.collect_model.proofs.Fields.{place_is}
+use Rattle.collect_model.proofs.References.{place_is}
 use Rattle.collect_model.proofs.Graph.{found_contains}
 use Rattle.collect_model.proofs.Rereading.{word_there}
 use Rattle.collector.specs.Begun.{AreCollectable}
