@@ -1,6 +1,7 @@
 -- The territories and registers of a valid heap can be collected with allowed arguments.
 use Rattle.std.proofs.Common.{◌≡◌, ◌⊎◌, ℕ, ◌+◌, ◌<◌, ◌≤◌, ◌&&◌, ◌||◌, ◌==◌, nat_le, nat_lt, Bool, true, false, cond, List, get_or, length, slice_get, IsTrue, IsSome, Option, None, Some, refl, sym, ◌∙◌, ap, subst, arith, inl, inr}
 use Rattle.std.proofs.lemmas.Bool.{and_parts, eqb-true, false≢true, leb-true, ltb-true, or_cases}
+use Rattle.std.proofs.lemmas.List.{length-map}
 use Rattle.std.proofs.lemmas.List.Elements.{All-contains}
 use Rattle.std.proofs.lemmas.Option.{none-some, same_Some}
 use Rattle.gc_words.specs.declared.value.Value.{Value}
@@ -17,7 +18,7 @@ use Rattle.territory.specs.declared.territory.Targets.{Targets}
 use Rattle.territory.specs.Territories.{Refers, has_values as may_refer}
 use Rattle.sweep_model.specs.World.{is_strong, object_in, strong_value}
 use Rattle.sweep_model.proofs.Names.{strong_word, word_in}
-use Rattle.heap_store.specs.Starts.{IsThere, IsThereOption, IsWordThere, Starts, has_values, object_of}
+use Rattle.heap_store.specs.Starts.{IsThere, IsThereOption, IsWordThere, Starts, has_values, object_of, read}
 use Rattle.heap_store.specs.HeapView.{HeapView, starts_of}
 use Rattle.heap_store.specs.Plain.{is_plain}
 use Rattle.heap_store.specs.Calls.{IsValid}
@@ -192,6 +193,9 @@ module _ (h : HeapView) (valid : IsValid h) where
         cards = valid.cards;
         fields = λ a i b e. strong_refers a i b (f a) refl e;
         held = λ r b e. register_refers r b (slice_get h.registers r) refl e;
+        count =
+            sym (ap length valid.stands.registers.reads ∙ length-map (read f) h.registers)
+            ∙ valid.stands.well_formed.registers;
         least = ordered.least;
         greatest = ordered.greatest;
         generations = ordered.most;

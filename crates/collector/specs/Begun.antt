@@ -12,7 +12,7 @@ use Rattle.heap_store.specs.Stands.{AreSettled}
 use Rattle.sweeper.specs.Sweepers.{SweeperView}
 use Rattle.sweeper.specs.Starting.{IsBeginning, IsBegun}
 use Rattle.sweep_rounds.specs.Turns.{sweeper_at}
-use Rattle.collector.specs.Dealt.{AreRegistersDealtTo, IsDealtTo}
+use Rattle.collector.specs.Dealt.{AreRegistersDealtTo, own_at}
 
 -- Territories and registers that can be collected with these targets: cards are sound, what a strong field or a register
 -- refers to starts somewhere, and what is not collected is of no generation below one to which something goes.
@@ -22,6 +22,7 @@ pub record AreCollectable (territories : List TerritoryView) (registers : List V
   pub fields : (a i b : ℕ) → object_in (strong_value (starts_in territories a) i) ≡ Some b
       → IsSome (starts_in territories b)
   pub held : (r b : ℕ) → object_in (slice_get registers r) ≡ Some b → IsSome (starts_in territories b)
+  pub count : length registers ≡ 4096
   pub least : targets.cg ≤ targets.min
   pub greatest : targets.min ≤ targets.max
   pub generations : targets.max ≤ 8
@@ -43,19 +44,17 @@ pub record HaveBegun (old new : List TerritoryView) (targets : Targets) : Type 0
   pub count : length new ≡ length old
   pub each : (i : ℕ) (t u : TerritoryView) → slice_get old i ≡ Some t → slice_get new i ≡ Some u → HasBegun t u targets
 
--- sweeper k, made with a directory of territories that have begun
-pub record IsMade (d : DirectoryView) (territories : List TerritoryView) (registers : List Value) (k : ℕ)
-    (v : SweeperView) : Type 0 where
-  pub own : List TerritoryView
-  pub dealt : IsDealtTo (sweeper_count d) k territories own
+-- sweeper k, made with a directory of territories that have begun, of its own ones
+pub record IsMade (d : DirectoryView) (own : List TerritoryView) (registers : List Value) (k : ℕ) (v : SweeperView)
+    : Type 0 where
   pub own_registers : List (ℕ × Value)
-  pub registers_dealt : AreRegistersDealtTo (sweeper_count d) k registers own_registers
+  pub dealt : AreRegistersDealtTo (sweeper_count d) k registers own_registers
   pub begun : (world : World) → IsWorld world → IsBeginning world k d own own_registers → IsBegun world v
   pub directory : v.places.directory ≡ d
   pub number : v.share.number ≡ k
 
-pub record AreMade (d : DirectoryView) (territories : List TerritoryView) (registers : List Value)
+pub record AreMade (d : DirectoryView) (owns : List (List TerritoryView)) (registers : List Value)
     (sweepers : List SweeperView) : Type 0 where
-  pub count : length sweepers ≡ sweeper_count d
+  pub count : length sweepers ≡ length owns
   pub each : (k : ℕ) (e : SweeperView) → k < length sweepers
-      → IsMade d territories registers k (sweeper_at sweepers e k)
+      → IsMade d (own_at owns k) registers k (sweeper_at sweepers e k)

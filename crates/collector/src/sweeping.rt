@@ -1,12 +1,12 @@
 //! Territories and registers are collected by sweepers.
 
-ghost use Rattle.std.specs.Prelude.{◌≡◌, ℕ, ◌+◌, ◌<◌, ◌≤◌, List, length, slice_index, IfOk};
-ghost use Rattle.directory.specs.Directories.{AreOfThreads, sweeper_count};
-ghost use Rattle.territory.specs.Territories.{TerritoryView};
+ghost use Rattle.std.specs.Prelude.{◌≡◌, ℕ, ◌+◌, ◌<◌, ◌≤◌, length, slice_index, IfOk};
+ghost use Rattle.directory.specs.Directories.{sweeper_count};
+ghost use Rattle.sweep_share.specs.Shares.{AreShareOf};
 ghost use Rattle.sweeper.specs.Sweepers.{SweeperView};
 ghost use Rattle.sweep_rounds.specs.Turns.{sweeper_at};
 ghost use Rattle.collector.specs.Begun.{AreCollectable, AreMade, HaveBegun};
-ghost use Rattle.collector.specs.Dealt.{AreDealt};
+ghost use Rattle.collector.specs.Dealt.{own_at};
 ghost use Rattle.collector.specs.Swept.{IsSwept};
 
 use crate::dealing::{OwnTerritories, deal_registers, deal_territories};
@@ -50,10 +50,11 @@ fn make_sweepers(
     registers: &[Value],
     directory: &Directory,
 ) -> Result<Vec<Sweeper>, AllocError>
-    ghost all: { List TerritoryView }
-    requires dealt { AreDealt (sweeper_count directory.now) all owns.items }
-    requires threads { AreOfThreads all }
-    ensures { IfOk result (λ v. AreMade directory.now all registers.now v.items) }
+    requires count { length owns.items ≡ sweeper_count directory.now }
+    requires shares { (k : ℕ) → k < length owns.items
+        → AreShareOf k (sweeper_count directory.now) (own_at owns.items k) }
+    requires registers { length registers.now ≡ 4096 }
+    ensures { IfOk result (λ v. AreMade directory.now owns.items registers.now v.items) }
 {
     let count = directory.sweepers();
     let mut number = 0;
