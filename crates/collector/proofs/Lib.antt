@@ -1,0 +1,7 @@
+pub mod BegunTerritories
+pub mod BegunWorld
+pub mod BegunDealt
+pub mod BegunAside
+pub mod BegunShare
+pub mod BegunDirectory
+pub mod Beginning
