@@ -1,31 +1,131 @@
 -- What the sweepers have in the end is what is left of the kept starts and of the registers.
-use Rattle.std.proofs.Common.{◌≡◌, ℕ, List, length, Some}
+use Rattle.std.proofs.Common.{◌≡◌, ℕ, ◌<◌, ◌%◌, List, length, slice_get, IsTrue, Some, sym, ◌∙◌, ap, subst, arith, inl, inr, refl}
+use Rattle.std.proofs.lemmas.Option.{same_Some, slice_get_cases}
 use Rattle.gc_words.specs.declared.value.Value.{Value}
 use Rattle.trace_types.specs.States.{State}
 use Rattle.trace_types.specs.Rules.{has, least}
 use Rattle.segment.specs.Segments.{Start}
 use Rattle.territory.specs.declared.territory.Targets.{Targets}
+use Rattle.gc_mail.specs.declared.message.Slot.TheVariants as back
+use Rattle.gc_mail.specs.Recipients.{holder_of}
 use Rattle.owned_core.specs.Settings.{Setting, rules_of}
-use Rattle.sweep_model.specs.World.{IsWorld}
+use Rattle.sweep_model.specs.World.{IsWorld, World, asks}
 use Rattle.sweep_model.specs.Hands.{Hand}
+use Rattle.sweep_model.proofs.Apt.{holder_in}
 use Rattle.heap_store.specs.Starts.{Starts}
 use Rattle.heap_store.specs.HeapView.{HeapView, starts_of}
 use Rattle.heap_store.specs.Plain.{IsPlain}
 use Rattle.heap_store.specs.Stands.{Stands}
 use Rattle.collect_model.specs.Worlds.{HasEnded, arguments_of, world_of}
-use Rattle.collect_model.specs.Left.{AreLeft, AreRegistersLeft}
+use Rattle.collect_model.specs.Left.{AreLeft, AreRegistersLeft, IsLeft, IsLeftOf, WasKept}
+use Rattle.collect_model.proofs.Fields.{again, all_left}
+use Rattle.collect_model.proofs.Landing.{Lands, landed, lands_once, lands_reached, reached_lands, same_thread}
+use Rattle.collect_model.proofs.Rereading.{ReadsAs, reads_again, value_there, values_again}
 
 -- the set `set` of births is what the rules reach
 abbrev pub IsReached : HeapView → Targets → ℕ → Setting → List ℕ → Type 0
 IsReached h targets n w set =
     (p : ℕ) (x : Start) → starts_of h p ≡ Some x → has set x.birth ≡ has (least (rules_of w)) p
 
-module _ (h : HeapView) (s : State) (targets : Targets) (n : ℕ) (hands : ℕ → Hand) (g : Starts) (registers : List Value)
-    (stands : Stands h s) (plain : IsPlain h) (is_world : IsWorld (world_of h targets n))
+module _ (h : HeapView) (s : State) (targets : Targets) (n : ℕ) (hands : ℕ → Hand) (g : Starts)
+    (registers : List Value) (stands : Stands h s) (plain : IsPlain h) (is_world : IsWorld (world_of h targets n))
     (ended : HasEnded (world_of h targets n) hands g registers) (set : List ℕ)
     (reached : IsReached h targets n ended.setting set) where
-  pub starts_left : AreLeft set (arguments_of targets) (starts_of h) g
-  starts_left = ?
+  abbrev world : World
+  world = world_of h targets n
 
-  pub registers_left : length registers ≡ length h.registers → AreRegistersLeft (starts_of h) g h.registers registers
-  registers_left count = ?
+  -- ---- starts
+
+  -- what lands is what is left of what was there
+  left_of : (x p : ℕ) (l : Lands world hands g x p)
+      → IsLeftOf set (arguments_of targets) (starts_of h) g x l.kept.old p l.kept.new
+  left_of x p l =
+      let is = plain.kinds x l.kept.old l.kept.was in
+      let a = again world hands g registers is_world ended x p l is
+      (stands.closed.laid_out x l.kept.old l.kept.was) in
+      record {
+        kind = l.kept.kind;
+        birth = l.kept.birth;
+        generation = l.kept.generation;
+        thread = same_thread world hands g registers is_world ended x p l;
+        fields = a.fields ∙ sym (all_left set l.kept.old.kind _ is);
+        laid_out = a.laid_out;
+      }
+
+  to : (x : ℕ) (y : Start) → starts_of h x ≡ Some y → IsTrue (has set y.birth)
+      → IsLeft set (arguments_of targets) (starts_of h) g x y
+  to x y there kept =
+      let r = reached_lands world hands g registers is_world ended x y there
+      (sym (reached x y there) ∙ kept) in
+      let same : r.1.kept.old ≡ y = same_Some _ _ (sym r.1.kept.was ∙ there) in
+      record {
+        place = r.0;
+        start = r.1.kept.new;
+        here = r.1.here;
+        left = subst (λ z. IsLeftOf set (arguments_of targets) (starts_of h) g x z r.0 r.1.kept.new) same
+            (left_of x r.0 r.1);
+      }
+
+  from : (q : ℕ) (y : Start) → g q ≡ Some y → WasKept set (arguments_of targets) (starts_of h) g q y
+  from q y here =
+      let r = landed world hands g registers is_world ended q y here in
+      let same : r.1.kept.new ≡ y = same_Some _ _ (sym r.1.here ∙ here) in
+      record {
+        place = r.0;
+        start = r.1.kept.old;
+        there = r.1.kept.was;
+        kept = reached r.0 r.1.kept.old r.1.kept.was
+            ∙ lands_reached world hands g registers is_world ended r.0 q r.1;
+        left = subst (IsLeftOf set (arguments_of targets) (starts_of h) g r.0 r.1.kept.old q) same
+            (left_of r.0 q r.1);
+      }
+
+  -- the birth of what stands at q is that of what landed there
+  birth_landed : (x q : ℕ) (y : Start) (l : Lands world hands g x q) → g q ≡ Some y
+      → l.kept.old.birth ≡ y.birth
+  birth_landed x q y l here =
+      sym l.kept.birth ∙ ap (λ (z : Start). z.birth) (same_Some _ _ (sym l.here ∙ here))
+
+  once : (q r : ℕ) (y z : Start) → g q ≡ Some y → g r ≡ Some z → y.birth ≡ z.birth → q ≡ r
+  once q r y z here_q here_r same =
+      let a = landed world hands g registers is_world ended q y here_q in
+      let b = landed world hands g registers is_world ended r z here_r in
+      let births : a.1.kept.old.birth ≡ b.1.kept.old.birth =
+      birth_landed a.0 q y a.1 here_q ∙ same ∙ sym (birth_landed b.0 r z b.1 here_r) in
+      let object : a.0 ≡ b.0 =
+      stands.closed.single a.0 b.0 a.1.kept.old b.1.kept.old a.1.kept.was b.1.kept.was births in
+      lands_once world hands g registers is_world ended b.0 q r
+      (subst (λ x. Lands world hands g x q) object a.1) b.1
+
+  pub starts_left : AreLeft set (arguments_of targets) (starts_of h) g
+  starts_left = record { to = to; from = from; once = once }
+
+  -- ---- registers
+
+  -- what register r holds in the end, its sweeper holds
+  held_by : (r : ℕ) → r < length registers → slice_get registers r ≡ (hands (r % n)).register r
+  held_by r below = elim (slice_get_cases registers r).1 [
+    | inl c ↦ c.2 ∙ sym (ended.registers r c.0 c.2)
+    | inr past ↦ absurd (omega (arith, past.0, below))
+  ]
+
+  register_again : (r : ℕ) → r < length h.registers → r < length registers
+      → ReadsAs (starts_of h) g (slice_get h.registers r) (slice_get registers r)
+  register_again r below inside =
+      let k : ℕ = holder_of n (back.Register r) in
+      let less : k < n = holder_in n (back.Register r) is_world.some in
+      reads_again world hands g registers is_world ended
+      (slice_get h.registers r) (slice_get registers r) (asks world (back.Register r))
+      (value_there (starts_of h) h.registers stands.registers.there r below)
+      refl
+      (λ none. held_by r inside ∙ (ended.tied k less).registers r (sym (ended.numbers k less)) none)
+      (λ t wants.
+      let d = ended.done.registers r t wants in
+      (d.0, d.1, held_by r inside ∙ d.2))
+
+  pub registers_left : length registers ≡ length h.registers
+      → AreRegistersLeft (starts_of h) g h.registers registers
+  registers_left count =
+      let r = values_again (starts_of h) g h.registers registers count
+      (λ i below. register_again i below (omega arith)) in
+      record { there = r.0; reads = r.1 }

@@ -10,7 +10,7 @@ use Rattle.segment.specs.Segments.{Start}
 use Rattle.territory.specs.Territories.{TerritoryView}
 use Rattle.heap_store.specs.Starts.{is_cell}
 use Rattle.heap_store.specs.HeapView.{HeapView, starts_in, starts_of}
-use Rattle.heap_store.specs.Plain.{IsPlain}
+use Rattle.heap_store.specs.Plain.{IsPlain, is_plain}
 use Rattle.heap_store.specs.Stands.{AreSettled, Stands}
 use Rattle.collect_model.specs.Left.{AreLeft, AreRegistersLeft}
 use Rattle.collect_model.proofs.LeavingPlain.{none_registered, plain_no_cell}
@@ -55,3 +55,16 @@ left_stands h s a territories registers stands plain allowed settled left held =
     no_cell q y here =
         let was = left.from q y here in
         ap is_cell was.left.kind ∙ plain_no_cell was.start.kind (plain.kinds was.place was.start was.there)
+
+-- it has no other kinds of objects than before
+pub plain_left : (h : HeapView) (territories : List TerritoryView) (registers : List Value) (set : List ℕ)
+    (a : Arguments) → IsPlain h → AreLeft set a (starts_of h) (starts_in territories)
+    → IsPlain (record h { territories = territories; registers = registers })
+plain_left h territories registers set a plain left = record {
+  kinds = λ q y here.
+      let was = left.from q y here in
+      ap is_plain was.left.kind ∙ plain.kinds was.place was.start was.there;
+  locks = plain.locks;
+  notes = plain.notes;
+  registry = plain.registry;
+}

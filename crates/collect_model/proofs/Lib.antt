@@ -1,7 +1,17 @@
+pub mod Members
+pub mod Accessible
+pub mod References
+pub mod Graph
+pub mod Reaching
+pub mod Keeping
 pub mod Reached
 pub mod LeavingPlain
 pub mod LeavingGraph
 pub mod LeavingRoots
 pub mod Leaving
+pub mod Landing
+pub mod Rereading
+pub mod Fields
 pub mod Ending
+pub mod Lengths
 pub mod Counting

@@ -25,7 +25,8 @@ KeptIsLeast =
     → IsSettingOf (world_of h targets n) w → (p : ℕ) (x : Start) → starts_of h p ≡ Some x
     → has (kept s targets.cg) x.birth ≡ has (least (rules_of w)) p
 
--- where a collection of a heap has ended, the heap of what starts then stands for the collected state
+-- Where a collection of a heap has ended, the heap of what starts then stands for the collected state. It has no other
+-- kinds of objects than before.
 abbrev pub CollectedStands : Type 0
 CollectedStands =
     (h : HeapView) (s : State) (targets : Targets) (n : ℕ) (hands : ℕ → Hand) (territories : List TerritoryView)
@@ -34,6 +35,7 @@ CollectedStands =
     → HasEnded (world_of h targets n) hands (starts_in territories) registers
     → length registers ≡ length h.registers
     → Stands (record h { territories = territories; registers = registers }) (collect s (arguments_of targets))
+    × IsPlain (record h { territories = territories; registers = registers })
 
 -- and each sweeper copied what its threads' kept objects add up to
 abbrev pub CopiesAreCounted : Type 0

@@ -1,3 +1,5 @@
+pub mod Performing
+pub mod Collectable
 pub mod BegunTerritories
 pub mod BegunWorld
 pub mod BegunDealt

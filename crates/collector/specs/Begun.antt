@@ -14,15 +14,15 @@ use Rattle.sweeper.specs.Starting.{IsBeginning, IsBegun}
 use Rattle.sweep_rounds.specs.Turns.{sweeper_at}
 use Rattle.collector.specs.Dealt.{AreRegistersDealtTo, IsDealtTo}
 
--- Territories and registers that can be collected with these targets: cards are sound, what a strong field, any word of
--- a value or a register refers to starts somewhere, and what is not collected is of no generation below one to which
--- something goes.
+-- Territories and registers that can be collected with these targets: cards are sound, what a field, strong or not, or a
+-- register refers to starts somewhere, and what is not collected is of no generation below one to which something goes.
 pub record AreCollectable (territories : List TerritoryView) (registers : List Value) (targets : Targets) : Type 0 where
   pub settled : AreSettled territories
   pub cards : HaveSoundCards territories
   pub fields : (a i b : ℕ) → object_in (strong_value (starts_in territories a) i) ≡ Some b
       → IsSome (starts_in territories b)
-  pub refers : (a i b : ℕ) (x : Start) → starts_in territories a ≡ Some x → Refers x i b → IsSome (starts_in territories b)
+  pub refers : (a i b : ℕ) (x : Start) → starts_in territories a ≡ Some x → Refers x i b
+      → IsSome (starts_in territories b)
   pub held : (r b : ℕ) → object_in (slice_get registers r) ≡ Some b → IsSome (starts_in territories b)
   pub least : targets.cg ≤ targets.min
   pub greatest : targets.min ≤ targets.max

@@ -21,10 +21,10 @@ abbrev pub arguments_in : ℕ → ℕ → CollectArgs → Arguments
 arguments_in oldest number Plain = plain_arguments oldest number
 arguments_in oldest number (Explicit cg least greatest) = record { cg = cg; least = least; greatest = greatest }
 
--- how many plain collections there were, after one with these arguments that would have this number as a plain one
-abbrev pub counted_in : CollectArgs → ℕ → ℕ → ℕ
-counted_in Plain before number = number
-counted_in (Explicit cg least greatest) before number = before
+-- how many plain collections there were, with one of these arguments: a plain one counts itself
+abbrev pub counted_in : CollectArgs → ℕ → ℕ
+counted_in Plain before = before + 1
+counted_in (Explicit cg least greatest) before = before
 
 -- the answer without its report
 abbrev pub without_report : Result Report HeapError → Result (Unit {0}) HeapError
@@ -45,7 +45,7 @@ KeepsFixed old new =
 pub record AreCounted (old : HeapView) (args : CollectArgs) (n : ℕ) (counts : List ℕ) : Type 0 where
   pub count : length counts ≡ n
   pub each : (s : State) (k : ℕ) → Stands old s → k < n
-      → slice_index counts k ≡ copied_by s (arguments_in s.oldest (s.collects + 1) args).cg n k
+      → slice_index counts k ≡ copied_by s (arguments_in s.oldest (counted_in args s.collects) args).cg n k
 
 -- how many registrations there are of the generations that are collected
 abbrev pub registrations_up_to : ℕ → List (List Registration) → ℕ

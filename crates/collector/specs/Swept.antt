@@ -5,6 +5,7 @@ use Rattle.territory.specs.declared.territory.Targets.{Targets}
 use Rattle.territory.specs.Territories.{TerritoryView}
 use Rattle.sweep_share.specs.Shares.{AreFinished}
 use Rattle.sweep_share.specs.Registers.{item_at, register_in}
+use Rattle.sweep_model.specs.World.{IsWorld}
 use Rattle.sweep_model.specs.Hands.{Hand}
 use Rattle.heap_store.specs.HeapView.{starts_in}
 use Rattle.heap_store.specs.Changes.{HaveSoundCards}
@@ -33,6 +34,7 @@ pub record ArePut (old new : List Value) (own : List (ℕ × Value)) : Type 0 wh
 -- The territories and registers of a collection that has ended, and how many objects each sweeper copied.
 pub record IsSwept (territories : List TerritoryView) (registers : List Value) (targets : Targets) (n : ℕ)
     (new_territories : List TerritoryView) (new_registers : List Value) (counts : List ℕ) : Type 0 where
+  pub is_world : IsWorld (world_in territories registers targets n)
   pub hands : ℕ → Hand
   pub ended : HasEnded (world_in territories registers targets n) hands (starts_in new_territories) new_registers
   pub settled : AreSettled new_territories

@@ -1,6 +1,6 @@
 //! Which collection the arguments of a command ask for.
 
-ghost use Rattle.std.specs.Prelude.{◌≡◌, ◌+◌, ◌<◌, ◌≤◌, ◌^◌, ◌↔◌, true, None, Some, IfSome, IfNone, IsTrue, if◌then◌else◌};
+ghost use Rattle.std.specs.Prelude.{◌≡◌, ◌≢◌, ◌≤◌, IfNone, IfSome, IsTrue};
 ghost use Rattle.trace_types.specs.Collections.{are_allowed, greatest_power};
 ghost use Rattle.collect_model.specs.Worlds.{arguments_of};
 ghost use Rattle.collector.specs.Collected.{arguments_in};

@@ -1,6 +1,6 @@
 //! The collection of a heap.
 
-ghost use Rattle.std.specs.Prelude.{◌≡◌, ◌↔◌, ℕ, ◌+◌, ◌*◌, ◌<◌, ◌≤◌, true, Err, IfOk, OnOk, IsTrue, length, slice_index};
+ghost use Rattle.std.specs.Prelude.{◌≡◌, ◌↔◌, ℕ, ◌+◌, ◌*◌, ◌<◌, ◌≤◌, true, Err, IfNone, IfOk, IfSome, OnOk, IsTrue, length, slice_index};
 ghost use Rattle.trace_types.specs.States.{State};
 ghost use Rattle.trace_types.specs.Steps.{step};
 ghost use Rattle.trace_types.specs.Collections.{are_allowed, collect};
@@ -74,13 +74,14 @@ fn collect_parts<R: Threads + Sync, G: Gate, M: Ledger>(
     Ok((parts, swept.report))
 }
 
-/// How many collections without arguments there were, after one with these.
-fn counted(args: CollectArgs, before: u64, number: u64) -> u64
-    ensures { result ≡ counted_in args before number }
+/// How many collections without arguments there were, with this one. None where that is no number of 64 bits.
+fn counted(args: CollectArgs, before: u64) -> Option<u64>
+    ensures some { IfSome result (λ n. n ≡ counted_in args before) }
+    ensures none { IfNone result (args ≡ CollectArgs.Plain) }
 {
     match args {
-        CollectArgs::Plain => number,
-        CollectArgs::Explicit { .. } => before,
+        CollectArgs::Plain => before.checked_add(1),
+        CollectArgs::Explicit { .. } => Some(before),
     }
 }
 
@@ -115,20 +116,20 @@ pub fn collect<R: Threads + Sync, G: Gate, M: Ledger, L: Ledger>(
     ensures mail { IfOk result (λ r. mail.new ≡ mail.old + r.rounds + r.messages) }
     ensures few { IfOk result (λ r. r.rounds ≤ r.messages + 1) }
     ensures steps { steps.new ≤ steps.old + 2 * registrations_up_to
-        (arguments_in heap.old.oldest (heap.old.collects + 1) args).cg heap.old.registry }
+        (arguments_in heap.old.oldest (counted_in args heap.old.collects) args).cg heap.old.registry }
 {
     if heap.failed() {
         return Err(HeapError::Failed);
     }
     let mut parts = heap.take_parts();
-    let Some(number) = parts.collects.checked_add(1) else {
+    let Some(number) = counted(args, parts.collects) else {
         return Err(HeapError::NoMemory);
     };
     let Some(targets) = targets_of(args, number, parts.version, parts.generations) else {
         heap.put_parts(parts);
         return Err(HeapError::Fault(Fault::BadGeneration));
     };
-    parts.collects = counted(args, parts.collects, number);
+    parts.collects = number;
     let Ok((parts, report)) = collect_parts(rt, parts, targets, sweepers, gate, mail) else {
         return Err(HeapError::NoMemory);
     };

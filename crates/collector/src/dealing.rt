@@ -1,6 +1,6 @@
 //! Territories and registers are dealt out to sweepers: those of number k go to the sweeper of k modulo their number.
 
-ghost use Rattle.std.specs.Prelude.{◌≡◌, ℕ, ◌+◌, ◌<◌, ◌≤◌, [], ◌++◌, ◌∷◌, length, replicate, IfOk, OnErr};
+ghost use Rattle.std.specs.Prelude.{◌≡◌, ◌<◌, ◌≤◌, [], ◌++◌, ◌∷◌, length, replicate, IfNone, IfOk, IfSome, OnOk};
 ghost use Rattle.collector.specs.Dealt.{AreDealt, AreRegistersDealtTo};
 
 use gc_words::Value;

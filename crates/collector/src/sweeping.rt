@@ -1,8 +1,10 @@
 //! Territories and registers are collected by sweepers.
 
-ghost use Rattle.std.specs.Prelude.{◌≡◌, ℕ, ◌+◌, ◌<◌, ◌≤◌, List, length, slice_get, IfOk};
+ghost use Rattle.std.specs.Prelude.{◌≡◌, ℕ, ◌+◌, ◌<◌, ◌≤◌, List, length, slice_index, IfOk};
 ghost use Rattle.directory.specs.Directories.{AreOfThreads, sweeper_count};
+ghost use Rattle.territory.specs.Territories.{TerritoryView};
 ghost use Rattle.sweeper.specs.Sweepers.{SweeperView};
+ghost use Rattle.sweep_rounds.specs.Turns.{sweeper_at};
 ghost use Rattle.collector.specs.Begun.{AreCollectable, AreMade, HaveBegun};
 ghost use Rattle.collector.specs.Dealt.{AreDealt};
 ghost use Rattle.collector.specs.Swept.{IsSwept};
