@@ -87,10 +87,10 @@ counted_both h s args stands =
 allowed_answer : (s : State) (args : CollectArgs) (b : Bool)
     → are_allowed s.version s.oldest (arguments_in s.oldest (counted_in args s.collects) args) ≡ b → b ≡ true
     → collected s args ≡ silently (collect (counted_state s args) (arguments_in s.oldest (counted_in args s.collects) args))
-allowed_answer s Plain b is yes = refl
-allowed_answer s (Explicit cg least greatest) b is yes =
+allowed_answer s Plain b is holds = refl
+allowed_answer s (Explicit cg least greatest) b is holds =
     let a : Arguments = record { cg = cg; least = least; greatest = greatest } in
-    ap (λ v. cond v (silently (collect s a)) (Err Fault.BadGeneration)) (is ∙ yes)
+    ap (λ v. cond v (silently (collect s a)) (Err Fault.BadGeneration)) (is ∙ holds)
 
 -- a heap that was collected with these arguments stands for the state of the step
 pub performs : (h : HeapView) (s : State) (args : CollectArgs) (a : Arguments) (line : ℕ) (new : HeapView)
@@ -103,10 +103,10 @@ performs h s args a line new is allowed leaves stands =
     let same : a ≡ arguments_in s.oldest (counted_in args s.collects) args =
     is ∙ (ap (λ n. arguments_in n (counted_in args h.collects) args) (sym stands.oldest)
     ∙ ap (λ n. arguments_in s.oldest (counted_in args n) args) (sym stands.collects)) in
-    let yes : are_allowed s.version s.oldest (arguments_in s.oldest (counted_in args s.collects) args) ≡ true =
+    let holds : are_allowed s.version s.oldest (arguments_in s.oldest (counted_in args s.collects) args) ≡ true =
     ap (λ b. are_allowed s.version s.oldest b) (sym same)
     ∙ (ap (λ v. are_allowed v s.oldest a) stands.version ∙ (ap (λ v. are_allowed h.version v a) stands.oldest ∙ allowed)) in
-    subst (λ (answer : Answer). Obeys s answer (Ok tt) new) (sym (allowed_answer s args true yes refl))
+    subst (λ (answer : Answer). Obeys s answer (Ok tt) new) (sym (allowed_answer s args true holds refl))
     (subst (λ b. Stands new (collect (counted_state s args) b)) same (leaves (counted_state s args) (counted_both h s args stands)))
 
 -- refused arguments are the fault of the step
@@ -115,16 +115,16 @@ pub performs_fault : (h : HeapView) (s : State) (args : CollectArgs) (line : ℕ
     → args ≢ Plain → Stands h s
     → Obeys s (step s line (Collect args)) (Err (HeapError.Fault Fault.BadGeneration)) h
 unfolding step
-performs_fault h s Plain line refused no stands = absurd (no refl)
-performs_fault h s (Explicit cg least greatest) line refused no stands =
+performs_fault h s Plain line refused other stands = absurd (other refl)
+performs_fault h s (Explicit cg least greatest) line refused other stands =
     let a : Arguments = record { cg = cg; least = least; greatest = greatest } in
     let same : are_allowed s.version s.oldest a ≡ are_allowed h.version h.oldest a =
     ap (λ v. are_allowed v s.oldest a) stands.version ∙ ap (λ v. are_allowed h.version v a) stands.oldest in
     elim (cases_Bool (are_allowed h.version h.oldest a)) [
-      | inl yes ↦ absurd (refused yes)
-      | inr not ↦
+      | inl holds ↦ absurd (refused holds)
+      | inr fails ↦
           subst (λ b. Obeys s (cond b (silently (collect s a)) (Err Fault.BadGeneration))
-          (Err (HeapError.Fault Fault.BadGeneration)) h) (sym (same ∙ not)) (refl, stands)
+          (Err (HeapError.Fault Fault.BadGeneration)) h) (sym (same ∙ fails)) (refl, stands)
     ]
 
 -- a heap that ran out of memory has failed, where the step is not refused
