@@ -192,6 +192,9 @@ module _ (h : HeapView) (valid : IsValid h) where
         settled = valid.stands.territories;
         cards = valid.cards;
         fields = λ a i b e. strong_refers a i b (f a) refl e;
+        refers = λ a i b x here refers.
+            word_refers a i b x here (refers_values x.kind (valid.plain.kinds a x here) refers.values)
+            (ap object_in refers.names);
         held = λ r b e. register_refers r b (slice_get h.registers r) refl e;
         count =
             sym (ap length valid.stands.registers.reads ∙ length-map (read f) h.registers)

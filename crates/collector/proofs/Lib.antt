@@ -1,2 +1,9 @@
 pub mod Performing
 pub mod Collectable
+pub mod BegunTerritories
+pub mod BegunWorld
+pub mod BegunDealt
+pub mod BegunAside
+pub mod BegunShare
+pub mod BegunDirectory
+pub mod Beginning

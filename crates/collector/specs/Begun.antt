@@ -3,7 +3,7 @@ use Rattle.std.specs.Prelude.{◌≡◌, ℕ, ◌<◌, ◌≤◌, List, length, 
 use Rattle.gc_words.specs.declared.value.Value.{Value}
 use Rattle.segment.specs.Segments.{Start}
 use Rattle.territory.specs.declared.territory.Targets.{Targets}
-use Rattle.territory.specs.Territories.{AreCardsSound, AreShaped, HaveAddresses, LieInSegments, TerritoryView, segment_at, when_begun}
+use Rattle.territory.specs.Territories.{AreCardsSound, AreShaped, HaveAddresses, LieInSegments, Refers, TerritoryView, segment_at, when_begun}
 use Rattle.directory.specs.Directories.{DirectoryView, sweeper_count}
 use Rattle.sweep_model.specs.World.{IsWorld, World, object_in, strong_value}
 use Rattle.heap_store.specs.HeapView.{starts_in}
@@ -14,12 +14,14 @@ use Rattle.sweeper.specs.Starting.{IsBeginning, IsBegun}
 use Rattle.sweep_rounds.specs.Turns.{sweeper_at}
 use Rattle.collector.specs.Dealt.{AreRegistersDealtTo, own_at}
 
--- Territories and registers that can be collected with these targets: cards are sound, what a strong field or a register
--- refers to starts somewhere, and what is not collected is of no generation below one to which something goes.
+-- Territories and registers that can be collected with these targets: cards are sound, what a field, strong or not, or a
+-- register refers to starts somewhere, and what is not collected is of no generation below one to which something goes.
 pub record AreCollectable (territories : List TerritoryView) (registers : List Value) (targets : Targets) : Type 0 where
   pub settled : AreSettled territories
   pub cards : HaveSoundCards territories
   pub fields : (a i b : ℕ) → object_in (strong_value (starts_in territories a) i) ≡ Some b
+      → IsSome (starts_in territories b)
+  pub refers : (a i b : ℕ) (x : Start) → starts_in territories a ≡ Some x → Refers x i b
       → IsSome (starts_in territories b)
   pub held : (r b : ℕ) → object_in (slice_get registers r) ≡ Some b → IsSome (starts_in territories b)
   pub count : length registers ≡ 4096
