@@ -15,3 +15,4 @@ pub mod Fields
 pub mod Ending
 pub mod Lengths
 pub mod Counting
+pub mod Collected

@@ -7,3 +7,4 @@ pub mod BegunAside
 pub mod BegunShare
 pub mod BegunDirectory
 pub mod Beginning
+pub mod Collecting

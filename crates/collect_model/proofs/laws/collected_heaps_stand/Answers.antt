@@ -1,29 +1,12 @@
-use Rattle.trace_types.specs.Kept.{kept}
-use Rattle.heap_store.specs.HeapView.{starts_in, starts_of}
-use Rattle.collect_model.specs.Worlds.{arguments_of}
-use Rattle.collect_model.specs.Left.{AreLeft}
 use Rattle.collect_model.proofs.Reached.{kept_is_least}
-use Rattle.collect_model.proofs.Leaving.{left_stands, plain_left}
-use Rattle.collect_model.proofs.Ending.{starts_left, registers_left}
-use Rattle.collect_model.proofs.Counting.{copies_counted}
+use Rattle.collect_model.proofs.Collected.{collected_stands, copies_are_counted}
 use Rattle.collect_model.proofs.laws.collected_heaps_stand.Goals as goal
 
 pub returns-clause-kept : goal.returns-clause-kept
 returns-clause-kept c = kept_is_least
 
 pub returns-clause-stands : goal.returns-clause-stands
-returns-clause-stands c h s targets n hands territories registers stands plain is_world allowed settled ended count =
-    let reached = kept_is_least h s targets n ended.setting stands plain ended.is_setting in
-    let left : AreLeft (kept s targets.cg) (arguments_of targets) (starts_of h) (starts_in territories) =
-    starts_left h s targets n hands (starts_in territories) registers stands plain is_world ended (kept s targets.cg)
-    reached in (
-      left_stands h s (arguments_of targets) territories registers stands plain allowed settled left
-      (registers_left h s targets n hands (starts_in territories) registers stands plain is_world ended
-      (kept s targets.cg) reached count),
-      plain_left h territories registers (kept s targets.cg) (arguments_of targets) plain left,
-    )
+returns-clause-stands c = collected_stands
 
 pub returns-clause-counts : goal.returns-clause-counts
-returns-clause-counts c h s targets n hands territories registers stands plain is_world ended =
-    copies_counted h s targets n hands (starts_in territories) registers stands plain is_world ended
-    (kept_is_least h s targets n ended.setting stands plain ended.is_setting)
+returns-clause-counts c = copies_are_counted
