@@ -1,2 +1,11 @@
 pub mod Performing
 pub mod Collectable
+pub mod Running
+pub mod Returned
+pub mod EndedStarts
+pub mod EndedRegisters
+pub mod Ended
+pub mod Gathered
+pub mod Agreeing
+pub mod GatheredCards
+pub mod Swept
