@@ -8,3 +8,12 @@ pub mod BegunShare
 pub mod BegunDirectory
 pub mod Beginning
 pub mod Collecting
+pub mod Running
+pub mod Returned
+pub mod EndedStarts
+pub mod EndedRegisters
+pub mod Ended
+pub mod Gathered
+pub mod Agreeing
+pub mod GatheredCards
+pub mod Swept

@@ -170,6 +170,7 @@ pub fn run_to_idle<R: Threads + Sync, G: Gate, M: Ledger>(
     ensures ends { OnOk result ((d : SweeperView)
         → Ends (length sweepers.old.items) (sweeper_at sweepers.old.items d)
         (sweeper_at sweepers.new.items d)) }
+    ensures same { OnOk result (length sweepers.new.items ≡ length sweepers.old.items) }
     ensures rounds { IfOk result (λ r. (d : SweeperView)
         → CountRounds (length sweepers.old.items) (sweeper_at sweepers.old.items d)
         (sweeper_at sweepers.new.items d) r.rounds) }

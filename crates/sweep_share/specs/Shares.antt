@@ -2,10 +2,11 @@
 use Rattle.std.specs.Prelude.{◌≡◌, ◌≢◌, ℕ, ◌+◌, ◌*◌, ◌/◌, ◌%◌, ◌<◌, ◌≤◌, ◌==◌, Bool, false, List, [], length, slice_index_or, slice_set, option_map, Option, None, Some, if◌then◌else◌, refl}
 use Rattle.std.specs.Coded.{Coded, code_by, coded×, coded_ℕ, coded_list}
 use Rattle.std.specs.FinMap.{get}
+use Rattle.gc_words.specs.declared.address.TheConstants.{THREADS}
 use Rattle.gc_words.specs.Layout.{IsAddress, segment_of, thread_of}
 use Rattle.gc_mail.specs.Recipients.{owner}
 use Rattle.segment.specs.Segments.{Start}
-use Rattle.territory.specs.Territories.{AreCardsSound, SegmentView, TellsLower, TerritoryView, coded_territory, no_territory, segment_at}
+use Rattle.territory.specs.Territories.{AreCardsSound, HaveAddresses, SegmentView, TellsLower, TerritoryView, coded_territory, no_territory, segment_at}
 use Rattle.territory.specs.Finishing.{AreCardsSoundFor, start_after, when_finished}
 use Rattle.territory.specs.Olds.{TellsAbove, when_raised}
 use Rattle.territory.specs.Copies.{copy_in, RefersToNoneBelow}
@@ -120,13 +121,15 @@ pub record IsRaised (old new : ShareView) (cg : ℕ) : Type 0 where
 -- ---- the end of the collection
 
 -- A territory after its collection ended and nothing was kept in place: its from-segments are given back, with all that
--- started in them. Cards that were sound for what stays are sound.
+-- started in them. Cards that were sound for what stays are sound. Each start has an address of its thread.
 pub record IsFinished (old new : TerritoryView) : Type 0 where
   pub starts : (a : ℕ) → get new.starts a ≡ start_after old [] a
   pub segments : (n : ℕ) → segment_at new n ≡ when_finished old.targets [] n (segment_at old n)
   pub thread : new.thread ≡ old.thread
   pub targets : new.targets ≡ old.targets
   pub sound : (generation_at : ℕ → Option ℕ) → AreCardsSoundFor generation_at old [] → AreCardsSound generation_at new
+  pub thread_in : new.thread < THREADS
+  pub addresses : HaveAddresses new
 
 abbrev pub AreFinished : List TerritoryView → List TerritoryView → Type 0
 AreFinished = IsEach IsFinished

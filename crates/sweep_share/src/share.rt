@@ -4,7 +4,7 @@ ghost use Rattle.std.specs.Prelude.{◌≡◌, ◌/◌, ◌%◌, ◌<◌, ◌≤
 ghost use Rattle.gc_mail.specs.Recipients.{owner};
 ghost use Rattle.gc_words.specs.Layout.{thread_of};
 ghost use Rattle.territory.specs.Territories.{words_of};
-ghost use Rattle.sweep_share.specs.Shares.{AreFinished, AreRaised, AreShareOf, IsCopied, IsPut, IsRaised, start_in, territory_at, territory_of};
+ghost use Rattle.sweep_share.specs.Shares.{AreFinished, AreRaised, AreShareOf, IsCopied, IsPut, IsRaised, IsShare, start_in, territory_at, territory_of};
 
 use gc_words::{Address, owner_of};
 use std::alloc::AllocError;
@@ -181,7 +181,8 @@ impl Share {
     /// Ends the collection in each of its territories, with nothing kept in place, and gives them, in the same order.
     /// Costs what `finish` of each costs.
     pub fn finish(self) -> Vec<Territory>
-        ensures { AreFinished self.territories result.items }
+        ensures finished { AreFinished self.territories result.items }
+        ensures share { IsShare self }
     {
         let mut territories = self.territories;
         finish_all(&mut territories);

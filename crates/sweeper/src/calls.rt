@@ -4,7 +4,7 @@ ghost use Rattle.std.specs.Prelude.{◌≡◌, ◌/◌, ◌%◌, ◌<◌, [], Co
 ghost use Rattle.sweep_model.specs.Hands.{IsAbsent};
 ghost use Rattle.sweep_places.specs.Places.{IsOwnStart};
 ghost use Rattle.sweep_share.specs.Registers.{AreRegistersOf};
-ghost use Rattle.sweep_share.specs.Shares.{AreFinished, territory_at};
+ghost use Rattle.sweep_share.specs.Shares.{AreFinished, IsShare, territory_at};
 
 use crate::Sweeper;
 use directory::Directory;
@@ -84,6 +84,7 @@ impl Sweeper {
     /// territories and registers are given, in the order in which `new` took them.
     pub fn finish(self) -> SweeperParts
         ensures territories { AreFinished self.share.territories result.territories.items }
+        ensures share { IsShare self.share }
         ensures registers { result.registers.items ≡ self.registers.items }
         ensures numbers { AreRegistersOf self.registers.number self.registers.sweepers result.registers.items }
     {

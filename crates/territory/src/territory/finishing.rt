@@ -1,9 +1,10 @@
 //! What ends a collection.
 
-ghost use Rattle.std.specs.Prelude.{◌≡◌, ℕ, Option, All, is_some};
+ghost use Rattle.std.specs.Prelude.{◌≡◌, ◌<◌, ℕ, Option, All, is_some};
 ghost use Rattle.std.specs.List.{filter};
 ghost use Rattle.std.specs.FinMap as map;
-ghost use Rattle.territory.specs.Territories.{segment_at, AreCardsSound};
+ghost use Rattle.gc_words.specs.declared.address.TheConstants.{THREADS};
+ghost use Rattle.territory.specs.Territories.{segment_at, AreCardsSound, HaveAddresses};
 ghost use Rattle.territory.specs.Finishing.{IsFromStart, start_after, when_finished, AreListsFinished, AreCardsSoundFor};
 
 use super::Territory;
@@ -27,6 +28,8 @@ impl Territory {
         ensures targets { self.new.targets ≡ self.old.targets }
         ensures sound { (generation_at : ℕ → Option ℕ)
             → AreCardsSoundFor generation_at self.old held.now → AreCardsSound generation_at self.new }
+        ensures thread_in { self.new.thread < THREADS }
+        ensures addresses { HaveAddresses self.new }
     {
         self.pool.hold(held);
         self.pool.finish(self.targets);

@@ -1,4 +1,4 @@
-use Rattle.std.proofs.Common.{rules, ◌≡◌, ℕ, ◌<◌, ◌≤◌, false, List, ◌++◌, length, take, drop, OnOk, sym, ◌∙◌, ap, subst, arith, append-nil}
+use Rattle.std.proofs.Common.{rules, ◌≡◌, ℕ, ◌<◌, ◌≤◌, false, List, ◌++◌, length, take, drop, OnOk, Result, Ok, Err, sym, ◌∙◌, ap, subst, arith, append-nil}
 use Rattle.std.proofs.Math.ListN.{drop_of_length-le}
 use Rattle.std.proofs.Math.Seq.{take-length}
 use Rattle.sweeper.specs.Sweepers.{SweeperView}
@@ -12,6 +12,20 @@ refilled n xs ws e f =
     let none : length xs ≤ length ws = omega (arith, f) in
     ap (λ t. take n (ws ++ t)) (drop_of_length-le xs none)
     ∙ (ap (take n) (append-nil ws) ∙ (ap (λ m. take m ws) (e ∙ sym f) ∙ take-length ws))
+
+-- where the answer is Ok, and anyhow
+on_ok : {X E : Type 0} (P : Type 0) (r : Result X E) → P → OnOk r P
+on_ok P (Ok x) p = p
+on_ok P (Err e) p = tt
+
+pub returns-clause-same : goal.returns-clause-same
+returns-clause-same g c =
+    let start : List SweeperView = c.args.sweepers.now.items in
+    let end : List SweeperView = c.run_turns.new.sweepers in
+    let full : c.args.sweepers.now.len ≡ length start = search rules in
+    let value : c.deref_mut.result.now ≡ start = c.deref_mut.ensures.value in
+    let same : length end ≡ length start = c.run_turns.auto.sweepers ∙ ap length value in
+    on_ok _ c.run_turns.result (ap length (refilled c.args.sweepers.now.len start end full same) ∙ same)
 
 pub returns-clause-ends : goal.returns-clause-ends
 returns-clause-ends g c =

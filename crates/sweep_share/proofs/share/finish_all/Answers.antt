@@ -17,4 +17,6 @@ loop-i-preserved c =
       thread = c.finish.ensures.thread;
       targets = c.finish.ensures.targets;
       sound = c.finish.ensures.sound;
+      thread_in = c.finish.ensures.thread_in;
+      addresses = c.finish.ensures.addresses;
     })

@@ -1,9 +1,10 @@
-use Rattle.std.proofs.Common.{ap, sym, ◌∙◌}
+use Rattle.std.proofs.Common.{ap, refl, sym, ◌∙◌}
 use Rattle.std.specs.FinMap.{get}
 use Rattle.gc_words.specs.Layout.{segment_of}
 use Rattle.territory.specs.Territories.{TerritoryView, segment_at}
 use Rattle.territory.specs.Finishing.{start_finished, when_finished}
 use Rattle.territory.proofs.Marks.{holdable}
+use Rattle.territory.proofs.Reading.{addresses}
 use Rattle.territory.proofs.FinishedTerritory.{ended, ended_starts, ended_segments, ended_lists, ended_dirty, ended_sound, ended_used, ended_between}
 use Rattle.territory.proofs.territory.Territory.finish.Goals as goal
 
@@ -27,3 +28,6 @@ returns-clause-sound c = λ generation_at. ended_sound _ _ _ _ _ _ _ generation_
 
 pub invariant_of-self : goal.invariant_of-self
 invariant_of-self c = (c.self.invariant.0, c.finish.ensures.settled, ended_used _ _ _ _ _ _ _ (ended c.self.inside.thread c.self.inside.targets c.args.self.now c.self.inside.pool c.hold.new.self c.finish.new.self c.args.held.now c.self.view_is c.self.invariant.1 c.self.invariant.3 c.requires c.hold.ensures.settled c.hold.ensures.segments c.hold.ensures.rest c.finish.ensures.settled c.finish.ensures.finished) c.self.invariant.2, ended_between _ _ _ _ _ _ _ (ended c.self.inside.thread c.self.inside.targets c.args.self.now c.self.inside.pool c.hold.new.self c.finish.new.self c.args.held.now c.self.view_is c.self.invariant.1 c.self.invariant.3 c.requires c.hold.ensures.settled c.hold.ensures.segments c.hold.ensures.rest c.finish.ensures.settled c.finish.ensures.finished) c.self.invariant.3)
+
+pub returns-clause-addresses : goal.returns-clause-addresses
+returns-clause-addresses c = addresses _ _ c.self.inside.targets _ c.self.invariant.0 c.finish.ensures.settled refl
