@@ -17,3 +17,4 @@ pub mod Gathered
 pub mod Agreeing
 pub mod GatheredCards
 pub mod Swept
+pub mod Course

@@ -3,7 +3,7 @@ use Rattle.std.specs.Prelude.{◌≡◌, ◌≢◌, ℕ, ◌<◌, List, length, 
 use Rattle.gc_words.specs.declared.value.Value.{Value}
 use Rattle.territory.specs.declared.territory.Targets.{Targets}
 use Rattle.territory.specs.Territories.{TerritoryView}
-use Rattle.sweep_share.specs.Shares.{AreFinished}
+use Rattle.sweep_share.specs.Shares.{AreFinished, IsShare}
 use Rattle.sweep_share.specs.Registers.{item_at, register_in}
 use Rattle.sweep_model.specs.World.{IsWorld}
 use Rattle.sweep_model.specs.Hands.{Hand}
@@ -21,6 +21,7 @@ pub record AreEnded (sweepers : List SweeperView) (owns : List (List TerritoryVi
   pub count : length owns ≡ length sweepers
   pub finished : (k : ℕ) (e : SweeperView) → k < length sweepers
       → AreFinished (sweeper_at sweepers e k).share.territories (own_at owns k)
+  pub shares : (k : ℕ) (e : SweeperView) → k < length sweepers → IsShare (sweeper_at sweepers e k).share
   pub registers_count : length after ≡ length before
   pub registers : (k r : ℕ) (e : SweeperView) (v : Value) → k < length sweepers → r < length before
       → register_in (sweeper_at sweepers e k).registers r ≡ Some v → slice_get after r ≡ Some v

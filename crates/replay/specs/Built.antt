@@ -2,7 +2,7 @@
 use Rattle.std.specs.Prelude.{ℕ, Bool, true, false, List, Err, if◌then◌else◌}
 use Rattle.trace_types.specs.declared.fault.Fault.TheVariants.{UnknownCommand}
 use Rattle.trace_types.specs.declared.command.Command.{Command}
-use Rattle.trace_types.specs.declared.command.Command.TheVariants.{Thread, Cons, MakeBox, Vector, Bytes, Get, Set, Mov, Print, Census, Gen, Version}
+use Rattle.trace_types.specs.declared.command.Command.TheVariants.{Thread, Cons, MakeBox, Vector, Bytes, Get, Set, Mov, Collect, Print, Census, Gen, Version}
 use Rattle.trace_types.specs.declared.limits.Limits.{Limits}
 use Rattle.trace_types.specs.States.{State, opening, Answer}
 use Rattle.trace_types.specs.Steps.{step}
@@ -20,6 +20,7 @@ is_built (Bytes d length byte) = true
 is_built (Get d s index) = true
 is_built (Set s index value) = true
 is_built (Mov d value) = true
+is_built (Collect args) = true
 is_built (Print value) = true
 is_built Census = true
 is_built (Gen value) = true

@@ -9,9 +9,10 @@ use Rattle.heap_store.specs.declared.error.HeapError.{HeapError}
 use Rattle.heap_store.specs.declared.error.HeapError.TheVariants.{Failed, NoMemory, Fault as IsFault}
 use Rattle.replay.specs.Built.{built_step, line_turn}
 
--- the heap, and the newest line that was performed
+-- the heap, how many sweepers collect it, and the newest line that was performed
 pub record EngineView : Type 0 where
   pub heap : HeapView
+  pub sweepers : ℕ
   pub newest : ℕ
 
 -- xs is a front of ys, and one that is not all of it

@@ -6,10 +6,13 @@ ghost use Rattle.trace_types.specs.WellFormed.{operands_fit};
 ghost use Rattle.heap_store.specs.Starts.{Keeps};
 ghost use Rattle.heap_store.specs.HeapView.{starts_of};
 ghost use Rattle.heap_store.specs.Changes.{HaveSoundCards};
+ghost use Rattle.trace_types.specs.declared.operand.CollectArgs.{CollectArgs};
+ghost use Rattle.collector.specs.Collected.{KeepsFixed};
 ghost use Rattle.replay.specs.Built.{takes_no_memory};
 ghost use Rattle.replay.specs.Engine.{Steps};
 ghost use Rattle.replay.specs.Words.{IsInRange};
 
+use crate::collecting::collect_heap;
 use crate::printing::{print_census, print_generation, print_graph};
 use gc_io::Gate;
 use heap_store::{Heap, HeapError};
@@ -22,6 +25,7 @@ use trace_types::{Command, Fault, Limits};
 #[derive(Drop)]
 pub struct Engine {
     heap: Heap,
+    sweepers: u32,
     newest: u32,
 }
 
@@ -35,9 +39,9 @@ impl Model for Engine {
 
     ghost coded = { Prim.hlevel (codes, coded_territory) };
 
-    ghost view = { λ e. record { heap = e.heap; newest = e.newest } };
+    ghost view = { λ e. record { heap = e.heap; sweepers = e.sweepers; newest = e.newest } };
 
-    ghost invariant = { λ e. e.heap.last ≤ e.newest };
+    ghost invariant = { λ e. (e.heap.last ≤ e.newest) × (1 ≤ e.sweepers) × (e.sweepers ≤ 64) };
 }
 
 impl Engine {
@@ -49,7 +53,11 @@ impl Engine {
         ensures newest { IfOk result (λ e. e.newest ≡ 0) }
     {
         let heap = Heap::new(alloc, limits.generations)?;
-        Ok(Engine { heap, newest: 0 })
+        Ok(Engine {
+            heap,
+            sweepers: limits.sweepers,
+            newest: 0,
+        })
     }
 
     /// The heap.
@@ -63,28 +71,36 @@ impl Engine {
     pub fn into_heap(self) -> Heap
         ensures { result ≡ self.heap }
     {
-        let Engine { heap, newest: _ } = self;
+        let Engine {
+            heap,
+            sweepers: _,
+            newest: _,
+        } = self;
         heap
     }
 
     /// Performs the command of a line, whose fixnums are in range, and appends the text that it prints.
     ///
     /// A fault leaves the heap and the text as they were. Where memory runs out, the heap has failed, and a front of the
-    /// command's text may have been appended. `thread`, `get`, `set`, `mov` and `version 2` take no memory. A command that
-    /// isn't built yet has the fault `UnknownCommand`.
+    /// command's text may have been appended. `thread`, `get`, `set`, `mov` and `version 2` take no memory. A collection is
+    /// done by the sweepers of the limits, each in a thread of its own, and they pass the gate in each round. A command
+    /// that isn't built yet has the fault `UnknownCommand`.
     pub fn step<R: Threads + Sync, G: Gate>(
         &mut self,
-        _rt: &R,
+        rt: &R,
         line: u32,
         command: &Command,
         text: &mut Vec<u8>,
-        _gate: &G,
+        gate: &G,
     ) -> Result<(), HeapError>
         requires newer { self.old.newest < line }
         requires line { line ≤ 1073741823 }
         requires operands { IsTrue (operands_fit command.now) }
         ensures step { (s : State) → Stands self.old.heap s → Steps s line command.now result text.old.items text.new.items self.new.heap }
-        ensures kept { OnOk result (Keeps (starts_of self.old.heap) (starts_of self.new.heap)) }
+        ensures kept { ((args : CollectArgs) → command.now ≢ Command.Collect args)
+            → OnOk result (Keeps (starts_of self.old.heap) (starts_of self.new.heap)) }
+        ensures fixed { (args : CollectArgs) → command.now ≡ Command.Collect args
+            → OnOk result (KeepsFixed self.old.heap self.new.heap) }
         ensures cards { HaveSoundCards self.old.heap.territories → OnOk result (HaveSoundCards self.new.heap.territories) }
         ensures failed { (result ≡ Err HeapError.Failed) ↔ (self.old.heap.failed ≡ true) }
         ensures no_memory { IsTrue (takes_no_memory command.now) → result ≢ Err HeapError.NoMemory }
@@ -101,6 +117,9 @@ impl Engine {
             Command::Set { s, index, value } => self.heap.set(*s, *index, *value),
             Command::Mov { d, value } => self.heap.mov(*d, *value),
             Command::Version => self.heap.version_two(line),
+            Command::Collect { args } => {
+                collect_heap(rt, &mut self.heap, *args, self.sweepers, gate)
+            }
             Command::Print { value } => print_graph(&mut self.heap, *value, text),
             Command::Census => print_census(&mut self.heap, text),
             Command::Gen { value } => print_generation(&mut self.heap, *value, text),

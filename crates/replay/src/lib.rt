@@ -10,6 +10,7 @@
 //! `Engine::new`, `Engine::step` and `replay_main` take memory, and answer by an error or a status where they get none.
 #![tactic(auto)]
 
+mod collecting;
 mod engine;
 mod lines;
 mod printing;

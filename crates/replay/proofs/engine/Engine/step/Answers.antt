@@ -1,4 +1,4 @@
-use Rattle.trace_types.specs.declared.command.Command.TheVariants.{Thread, Cons, MakeBox, Vector, Bytes, Get, Set, Mov, Version}
+use Rattle.trace_types.specs.declared.command.Command.TheVariants.{Thread, Cons, MakeBox, Vector, Bytes, Get, Set, Mov, Version, Collect}
 use Rattle.replay.proofs.Stepping.{silent_steps, print_steps, census_steps, generation_steps, prints_cards, prints_last, cards_same, on_ok}
 use Rattle.replay.proofs.engine.Engine.step.Goals as goal
 use Rattle.std.proofs.Common.{refl, ap, arith}
@@ -69,6 +69,12 @@ returns-in-Version-clause-step g c = λ s stands.
 
 pub returns-in-Version-clause-cards : goal.returns-in-Version-clause-cards
 returns-in-Version-clause-cards g c = λ sound. on_ok _ _ (cards_same c.self.inside.heap c.version_two.new.self c.version_two.ensures.objects (rw (← c.self.view_is) at sound))
+
+pub returns-in-Collect-clause-step : goal.returns-in-Collect-clause-step
+returns-in-Collect-clause-step g c = λ s stands.
+    rw c.in-Collect.is
+    (silent_steps s c.args.line (Collect c.in-Collect.args) refl refl c.collect_heap.result c.args.text.now.items
+    c.collect_heap.new.heap (c.collect_heap.ensures.step s c.args.line (rw (← c.self.view_is) at stands)))
 
 pub returns-in-Print-clause-step : goal.returns-in-Print-clause-step
 returns-in-Print-clause-step g c = λ s stands.
