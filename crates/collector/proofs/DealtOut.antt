@@ -83,19 +83,23 @@ pub dealt_more : (n : ℕ) (all : List TerritoryView) (owns : List (List Territo
     → AreDealt n all owns
     → AreDealt n (all ++ t ∷ []) (set owns (length all % n) (own_at owns (length all % n) ++ t ∷ []))
 dealt_more n all owns t some dealt = record {
-  count = length-set owns (length all % n) (own_at owns (length all % n) ++ t ∷ []) ∙ dealt.count;
-  each = λ k low. elim (cases_eq k (length all % n)) [
+  count = length-set owns turn more ∙ dealt.count;
+  each = λ k low. elim (cases_eq k turn) [
     | inl e ↦
-        subst (λ j. IsDealtTo n j (all ++ t ∷ []) (own_at (set owns (length all % n) (own_at owns (length all % n) ++ t ∷ [])) j)) (sym e)
-        (subst (IsDealtTo n (length all % n) (all ++ t ∷ []))
-        (sym (get_or-set_same owns (length all % n) (own_at owns (length all % n) ++ t ∷ []) [] (omega (arith, dealt.count))))
-        (dealt_here n all (own_at owns (length all % n)) t some (dealt.each (length all % n) (omega arith))))
+        subst (λ j. IsDealtTo n j (all ++ t ∷ []) (own_at (set owns turn more) j)) (sym e)
+        (subst (IsDealtTo n turn (all ++ t ∷ [])) (sym (get_or-set_same owns turn more [] (omega (arith, dealt.count))))
+        (dealt_here n all (own_at owns turn) t some (dealt.each turn (omega arith))))
     | inr ne ↦
-        subst (IsDealtTo n k (all ++ t ∷ []))
-        (sym (get_or-set_other owns (length all % n) k (own_at owns (length all % n) ++ t ∷ []) [] ne))
+        subst (IsDealtTo n k (all ++ t ∷ [])) (sym (get_or-set_other owns turn k more [] ne))
         (dealt_there n k all (own_at owns k) t low ne (dealt.each k low))
   ];
 }
+  where
+    turn : ℕ
+    turn = length all % n
+
+    more : List TerritoryView
+    more = own_at owns turn ++ t ∷ []
 
 -- ---- registers
 

@@ -1,3 +1,4 @@
+-- No power above m divides the number.
 use Rattle.std.proofs.Common.{◌≡◌, ◌≤◌}
 use Rattle.trace_types.specs.Collections.{greatest_power}
 use Rattle.collector.proofs.arguments.greatest_power.Given as goal

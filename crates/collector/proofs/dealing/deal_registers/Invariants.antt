@@ -1,3 +1,4 @@
+-- The first registers of the sweeper are there, each with its number.
 use Rattle.std.proofs.Common.{◌-◌, length}
 use Rattle.collector.proofs.DealtOut.{AreFirstDealt}
 use Rattle.collector.proofs.dealing.deal_registers.Given as goal

@@ -1,3 +1,4 @@
+-- What came so far is dealt out.
 use Rattle.std.proofs.Common.{◌≡◌, ◌%◌, length}
 use Rattle.collector.specs.Dealt.{AreDealt}
 use Rattle.collector.proofs.dealing.deal_territories.Given as goal

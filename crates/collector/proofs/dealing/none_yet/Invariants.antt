@@ -1,3 +1,4 @@
+-- So many lists without territories.
 use Rattle.std.proofs.Common.{◌≡◌, [], replicate}
 use Rattle.collector.proofs.dealing.none_yet.Given as goal
 
