@@ -18,3 +18,4 @@ pub mod Agreeing
 pub mod GatheredCards
 pub mod Swept
 pub mod Course
+pub mod DealtOut

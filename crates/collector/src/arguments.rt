@@ -31,7 +31,7 @@ fn greatest_power(number: u64, oldest: u8) -> u8
 {
     let mut m = oldest;
     while m > 0 {
-        if number % (1u64 << (2 * u32::from(m))) == 0 {
+        if number % 4u64.pow(u32::from(m)) == 0 {
             return m;
         }
         m -= 1;
@@ -41,15 +41,10 @@ fn greatest_power(number: u64, oldest: u8) -> u8
 
 /// The targets that the arguments ask for: a plain collection, the one of this number, collects the greatest generation
 /// m for which 4^m divides the number, as in Chez Scheme. None where version and oldest generation do not allow them.
-pub(crate) fn targets_of(
-    args: CollectArgs,
-    number: u64,
-    version: u8,
-    oldest: u8,
-) -> Option<Targets>
+pub(crate) fn targets_of(args: CollectArgs, number: u64, version: u8, oldest: u8) -> Option<Targets>
     requires { (1 ≤ oldest) × (oldest ≤ 7) }
     ensures some { IfSome result (λ t. (arguments_of t ≡ arguments_in oldest number args)
-        × IsTrue (are_allowed version oldest (arguments_of t)) ) }
+        × IsTrue (are_allowed version oldest (arguments_of t))) }
     ensures none { IfNone result ((IsTrue (are_allowed version oldest (arguments_in oldest number args)) → ⊥)
         × (args ≢ CollectArgs.Plain)) }
 {

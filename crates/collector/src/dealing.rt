@@ -83,10 +83,7 @@ pub(crate) fn deal_territories(
     let mut next = 0;
     for territory in territories {
         owns[next].push(territory)?;
-        next += 1;
-        if next == sweepers as usize {
-            next = 0;
-        }
+        next = (next + 1) % owns.len();
     }
     Ok(owns)
 }

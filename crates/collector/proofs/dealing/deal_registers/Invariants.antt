@@ -1,0 +1,10 @@
+-- The first registers of the sweeper are there, each with its number.
+use Rattle.std.proofs.Common.{◌-◌, length}
+use Rattle.collector.proofs.DealtOut.{AreFirstDealt}
+use Rattle.collector.proofs.dealing.deal_registers.Given as goal
+
+abbrev pub invariant-loop-register : goal.invariant-loop-register
+invariant-loop-register l = AreFirstDealt l.sweepers l.number l.registers l.register l.own.items
+
+abbrev pub decreases-loop-register : goal.decreases-loop-register
+decreases-loop-register l = length l.registers - l.register
