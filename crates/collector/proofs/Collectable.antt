@@ -197,7 +197,7 @@ module _ (h : HeapView) (valid : IsValid h) where
             (ap object_in refers.names);
         held = λ r b e. register_refers r b (slice_get h.registers r) refl e;
         count =
-            sym (ap length valid.stands.registers.reads ∙ length-map (read f) h.registers)
+            sym (ap length valid.stands.registers.reads ∙ length-map h.registers (read f))
             ∙ valid.stands.well_formed.registers;
         least = ordered.least;
         greatest = ordered.greatest;

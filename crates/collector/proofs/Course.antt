@@ -82,7 +82,7 @@ module _ {old new : List TerritoryView} {registers : List Value} {targets : Targ
 
   -- ---- after the run
 
-  module _ {after : List SweeperView} (same : length after ≡ length made)
+  module _ (after : List SweeperView) (same : length after ≡ length made)
       (ends : (e : SweeperView) → Ends (length made) (sweeper_at made e) (sweeper_at after e)) where
     after_count : length after ≡ n
     after_count = same ∙ made_count

@@ -14,8 +14,8 @@ use std::thread::Threads;
 use steps::Steps;
 use trace_types::{CollectArgs, Command};
 
-// The same with counters of this ledger, which nobody reads.
-fn collect_on<R: Threads + Sync, G: Gate, L: Ledger>(
+/// The same with counters of these ledgers, which nobody reads.
+fn collect_on<R: Threads + Sync, G: Gate, M: Ledger, L: Ledger>(
     rt: &R,
     heap: &mut Heap,
     args: CollectArgs,
@@ -25,8 +25,8 @@ fn collect_on<R: Threads + Sync, G: Gate, L: Ledger>(
     steps: Blank,
 ) -> Result<(), HeapError>
     requires sweepers { (1 ≤ sweepers) × (sweepers ≤ 64) }
-    requires mail_name { mail.name ≡ L.name }
-    requires mail_parts { mail.parts ≡ L.parts }
+    requires mail_name { mail.name ≡ M.name }
+    requires mail_parts { mail.parts ≡ M.parts }
     requires mail_some { 0 < mail.parts }
     requires steps_name { steps.name ≡ L.name }
     requires steps_parts { steps.parts ≡ L.parts }
@@ -38,7 +38,7 @@ fn collect_on<R: Threads + Sync, G: Gate, L: Ledger>(
     ensures fixed { OnOk result (KeepsFixed heap.old heap.new) }
     ensures last { heap.new.last ≡ heap.old.last }
 {
-    let mut mail = Steps::<L>::new(mail);
+    let mut mail = Steps::<M>::new(mail);
     let mut steps = Steps::<L>::new(steps);
     match collect(rt, heap, args, sweepers, gate, &mut mail, &mut steps) {
         Ok(_) => Ok(()),
@@ -62,7 +62,7 @@ pub(crate) fn collect_heap<R: Threads + Sync, G: Gate>(
     ensures fixed { OnOk result (KeepsFixed heap.old heap.new) }
     ensures last { heap.new.last ≡ heap.old.last }
 {
-    collect_on::<_, _, Brand>(
+    collect_on::<_, _, Brand, Brand>(
         rt,
         heap,
         args,
