@@ -19,3 +19,4 @@ pub mod GatheredCards
 pub mod Swept
 pub mod Course
 pub mod DealtOut
+pub mod Taking

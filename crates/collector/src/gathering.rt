@@ -1,6 +1,6 @@
 //! The territories and registers of all sweepers are put together again.
 
-ghost use Rattle.std.specs.Prelude.{◌≢◌, ℕ, ◌<◌, ◌≤◌, length, IfOk};
+ghost use Rattle.std.specs.Prelude.{◌≡◌, ◌≢◌, ℕ, ◌<◌, ◌≤◌, length, IfOk};
 ghost use Rattle.sweep_share.specs.Registers.{item_at};
 ghost use Rattle.sweeper.specs.Sweepers.{SweeperView};
 ghost use Rattle.sweep_rounds.specs.Turns.{sweeper_at};
@@ -34,6 +34,9 @@ pub(crate) fn end_all(
     sweepers: Vec<Sweeper>,
     registers: &mut Vec<Value>,
 ) -> Result<Vec<OwnTerritories>, AllocError>
+    requires numbers { (k : ℕ) (e : SweeperView) → k < length sweepers.items
+        → ((sweeper_at sweepers.items e k).registers.number ≡ k)
+        × ((sweeper_at sweepers.items e k).registers.sweepers ≡ length sweepers.items) }
     requires within { (k i : ℕ) (e : SweeperView) → k < length sweepers.items
         → i < length (sweeper_at sweepers.items e k).registers.items
         → (item_at (sweeper_at sweepers.items e k).registers.items i).0 < length registers.old.items }
