@@ -1,19 +1,19 @@
 -- Where nothing is registered, what is kept is accessible.
-use Rattle.std.proofs.Common.{◌≡◌, ℕ, ◌&&◌, List, [], ◌∷◌, ◌++◌, map, filter, flat_map, sym, subst, refl}
+use Rattle.std.proofs.Common.{◌≡◌, Bool, ℕ, List, [], ◌++◌, map, filter, flat_map, sym, subst}
 use Rattle.std.proofs.lemmas.Bool.{false≢true}
 use Rattle.std.proofs.lemmas.List.Elements.{All-from_recursion}
 use Rattle.trace_types.specs.Values.{objects_in}
 use Rattle.trace_types.specs.States.{State, Registration}
 use Rattle.trace_types.specs.Rules.{Rule, ◌⊆◌, MeetsAll}
-use Rattle.trace_types.specs.Kept.{rules, roots, served, as_though, as_though_member, is_candidate, is_ready, rules_to, unready_rules, is_dead, is_unordered, is_unready, accessible, waited_for, kept}
+use Rattle.trace_types.specs.Kept.{rules, roots, served, as_though, is_ready, unready_rules, accessible, waited_for, kept}
 use Rattle.trace_types.proofs.Least.{least_below, least_meets, MeetsAll-append}
 use Rattle.trace_types.proofs.Phases.{kept_below}
 
 -- rules from no registration are none
-none_met : (set : List ℕ) (g : List Registration → List Rule) (rs : List Registration) → rs ≡ [] → g [] ≡ []
-    → MeetsAll set (g rs)
-none_met set g rs none empty =
-    subst (λ qs. MeetsAll set (g qs)) (sym none) (subst (MeetsAll set) (sym empty) (All-from_recursion _ [] tt))
+none_met : (set : List ℕ) (test : Registration → Bool) (give : Registration → List Rule)
+    (rs : List Registration) → rs ≡ [] → MeetsAll set (flat_map give (filter test rs))
+none_met set test give rs none =
+    subst (λ qs. MeetsAll set (flat_map give (filter test qs))) (sym none) (All-from_recursion _ [] tt)
 
 module _ (s : State) (cg : ℕ) (none : s.registrations ≡ []) where
   abbrev A : List ℕ
@@ -24,24 +24,13 @@ module _ (s : State) (cg : ℕ) (none : s.registrations ≡ []) where
   accessible_meets = least_meets (rules s ++ roots s cg)
 
   served_met : MeetsAll A (served s cg)
-  served_met =
-      none_met A
-      (λ rs. flat_map (λ r. rules_to r.representative (r.guardian ∷ []))
-      (filter (λ r. is_dead s cg r && is_unordered s r) rs))
-      s.registrations none refl
+  served_met = none_met A _ _ s.registrations none
 
   as_though_met : MeetsAll A (as_though s cg)
-  as_though_met =
-      none_met A
-      (λ rs. flat_map (λ r. flat_map (as_though_member s) (objects_in (r.object ∷ [])))
-      (filter (is_candidate s cg) rs))
-      s.registrations none refl
+  as_though_met = none_met A _ _ s.registrations none
 
   unready_met : MeetsAll A (unready_rules s cg)
-  unready_met =
-      none_met A
-      (λ rs. flat_map (λ r. rules_to r.object (r.guardian ∷ [])) (filter (is_unready s cg) rs))
-      s.registrations none refl
+  unready_met = none_met A _ _ s.registrations none
 
   waited_accessible : waited_for s cg ⊆ A
   unfolding waited_for
@@ -55,8 +44,7 @@ module _ (s : State) (cg : ℕ) (none : s.registrations ≡ []) where
   ready_accessible : objects_in (map (λ r. r.representative) (filter (is_ready s cg) s.registrations)) ⊆ A
   ready_accessible =
       subst (λ rs. objects_in (map (λ (r : Registration). r.representative) (filter (is_ready s cg) rs)) ⊆ A)
-      (sym none)
-      (λ x there. absurd (false≢true there))
+      (sym none) (λ x there. absurd (false≢true there))
 
   pub kept_accessible : kept s cg ⊆ accessible s cg
   kept_accessible = kept_below s cg A (record {

@@ -4,7 +4,7 @@ use Rattle.heap_store.specs.HeapView.{starts_in, starts_of}
 use Rattle.collect_model.specs.Worlds.{arguments_of}
 use Rattle.collect_model.specs.Left.{AreLeft}
 use Rattle.collect_model.specs.Laws.{CollectedStands, CopiesAreCounted}
-use Rattle.collect_model.proofs.Reached.{kept_is_least}
+use Rattle.collect_model.proofs.KeptIsLeast.{kept_is_least}
 use Rattle.collect_model.proofs.Leaving.{left_stands, plain_left}
 use Rattle.collect_model.proofs.Ending.{starts_left, registers_left}
 use Rattle.collect_model.proofs.Counting.{copies_counted}
@@ -23,5 +23,5 @@ collected_stands h s targets n hands territories registers stands plain is_world
 
 pub copies_are_counted : CopiesAreCounted
 copies_are_counted h s targets n hands territories registers stands plain is_world ended =
-    copies_counted h s targets n hands (starts_in territories) registers stands plain is_world ended
+    copies_counted h s targets n hands (starts_in territories) registers stands plain ended
     (kept_is_least h s targets n ended.setting stands plain ended.is_setting)

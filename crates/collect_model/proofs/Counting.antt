@@ -1,6 +1,6 @@
 -- How many objects each sweeper copied.
-use Rattle.std.proofs.Common.{◌≡◌, ℕ, ◌+◌, ◌%◌, ◌<◌, ◌==◌, ◌&&◌, Bool, true, List, [], map, filter, length, nat_eq, nat_le, sum_by, get_or, Contains, IsTrue, sym, ◌∙◌, ap, subst, arith}
-use Rattle.std.specs.List.{AllByRecursion, IsDistinct}
+use Rattle.std.proofs.Common.{◌≡◌, ℕ, ◌+◌, ◌%◌, ◌<◌, ◌==◌, ◌&&◌, Bool, true, List, [], map, filter, length, nat_eq, nat_le, get_or, Contains, IsTrue, sym, ◌∙◌, ap, subst, arith}
+use Rattle.std.specs.List.{IsDistinct}
 use Rattle.std.proofs.lemmas.Bool.{and_from, and_parts, eq-eqb, eqb-true, ne_eqb}
 use Rattle.std.proofs.lemmas.List.{get_or-map, length-map}
 use Rattle.std.proofs.lemmas.List.Elements.{Contains-get_or}
@@ -12,12 +12,9 @@ use Rattle.trace_types.specs.Values.{Object}
 use Rattle.trace_types.specs.States.{State}
 use Rattle.trace_types.specs.Rules.{has}
 use Rattle.trace_types.specs.Kept.{kept}
-use Rattle.trace_types.proofs.Keeping.{each_filtered}
-use Rattle.trace_types.proofs.Least.{each_weaker}
-use Rattle.trace_types.proofs.Meeting.{found_each}
 use Rattle.territory.specs.declared.territory.Targets.{Targets}
 use Rattle.owned_core.proofs.Lists.{filter_some, map_some, some_filter, some_map}
-use Rattle.sweep_model.specs.World.{IsWorld, World, is_collected, is_young}
+use Rattle.sweep_model.specs.World.{World, is_collected, is_young}
 use Rattle.sweep_model.specs.Hands.{Hand, Tied, forwarded_at}
 use Rattle.sweep_model.proofs.Ages.{collected_start}
 use Rattle.heap_store.specs.Starts.{Starts, birth_of, object_of}
@@ -27,7 +24,7 @@ use Rattle.heap_store.specs.Stands.{Stands}
 use Rattle.collect_model.specs.Worlds.{HasEnded, world_of}
 use Rattle.collect_model.specs.Counts.{copied_by, is_copied_by}
 use Rattle.collect_model.proofs.Ending.{IsReached}
-use Rattle.collect_model.proofs.Graph.{contains_found, found_contains, object_placed, one_place, start_found}
+use Rattle.collect_model.proofs.Graph.{contained_placed, one_place, start_contained}
 use Rattle.collect_model.proofs.Lengths.{births_distinct, length-same, sum_by-one}
 
 module _ (h : HeapView) (s : State) (targets : Targets) (n : ℕ) (hands : ℕ → Hand) (g : Starts)
@@ -70,7 +67,7 @@ module _ (h : HeapView) (s : State) (targets : Targets) (n : ℕ) (hands : ℕ �
       let mine = tied.mine x p c in
       let y = collected_start world x mine.1 in
       let o : Object = object_of f x y.0 [] in
-      let there = found_contains s.graph y.0.birth o (start_found h s stands plain x y.0 y.1) in
+      let there = start_contained h s stands plain x y.0 y.1 in
       let is_kept : IsTrue (has (kept s targets.cg) y.0.birth) =
       reached x y.0 y.1 ∙ (ended.done.alone k x p less c).1 in
       let young : IsTrue (nat_le y.0.generation targets.cg) = sym (ap (is_young targets.cg) y.1) ∙ mine.1 in
@@ -82,8 +79,7 @@ module _ (h : HeapView) (s : State) (targets : Targets) (n : ℕ) (hands : ℕ �
 
   counted_copied : (b : ℕ) (o : Object) → Contains s.graph (b, o) → IsTrue (counts (b, o)) → Contains copies b
   counted_copied b o there passes =
-      let found = contains_found s.graph stands.well_formed.ordered b o there in
-      let p = object_placed h s stands plain b o found in
+      let p = contained_placed h s stands plain b o there in
       let x = p.place in
       let is_counted : IsTrue (counts (p.start.birth, object_of f x p.start [])) =
       subst (λ c. IsTrue (counts (c, object_of f x p.start []))) (sym p.same_birth)
@@ -138,20 +134,10 @@ module _ (h : HeapView) (s : State) (targets : Targets) (n : ℕ) (hands : ℕ �
   cells e = 1 + length e.1.queue
 
   -- nothing has a queue
-  no_cells : AllByRecursion (λ e. cells e ≡ 1) counted
-  no_cells =
-      each_filtered (λ e. cells e ≡ 1) counts s.graph
-      (each_weaker (λ e. cells e ≡ 1) (λ e. IsTrue (counts e) → cells e ≡ 1) (λ e one passes. one) s.graph
-      (found_each (λ b o. 1 + length o.queue ≡ 1) s.graph stands.well_formed.ordered
-      (λ b o found. ap (λ (q : Object). 1 + length q.queue) (object_placed h s stands plain b o found).is)))
+  no_cells : (e : ℕ × Object) → Contains counted e → cells e ≡ 1
+  no_cells e c =
+      let p = contained_placed h s stands plain e.0 e.1 (filter_some counts s.graph e c).0 in
+      ap (λ (o : Object). 1 + length o.queue) p.is
 
-  pub copies_count : length own ≡ copied_by s targets.cg n k
-  copies_count = as_many ∙ sym (sum_by-one cells counted no_cells)
-
-pub copies_counted : (h : HeapView) (s : State) (targets : Targets) (n : ℕ) (hands : ℕ → Hand) (g : Starts)
-    (registers : List Value) → Stands h s → IsPlain h → IsWorld (world_of h targets n)
-    → (ended : HasEnded (world_of h targets n) hands g registers)
-    → IsReached h targets n ended.setting (kept s targets.cg)
-    → (k : ℕ) → k < n → length (hands k).own ≡ copied_by s targets.cg n k
-copies_counted h s targets n hands g registers stands plain is_world ended reached k less =
-    copies_count h s targets n hands g registers stands plain ended reached k less
+  pub copies_counted : length own ≡ copied_by s targets.cg n k
+  copies_counted = as_many ∙ sym (sum_by-one cells counted no_cells)

@@ -1,7 +1,8 @@
 -- What the sweepers have in the end is what is left of the kept starts and of the registers.
-use Rattle.std.proofs.Common.{◌≡◌, ℕ, ◌<◌, ◌%◌, List, length, slice_get, IsTrue, Some, sym, ◌∙◌, ap, subst, arith, inl, inr, refl}
-use Rattle.std.proofs.lemmas.Option.{same_Some, slice_get_cases}
+use Rattle.std.proofs.Common.{◌≡◌, ℕ, ◌<◌, ◌%◌, List, length, get_or, slice_get, IsTrue, Some, sym, ◌∙◌, ap, subst, arith, refl}
+use Rattle.std.proofs.lemmas.Option.{same_Some, slice_get-get_or}
 use Rattle.gc_words.specs.declared.value.Value.{Value}
+use Rattle.gc_words.specs.declared.value.Value.TheVariants as word
 use Rattle.trace_types.specs.States.{State}
 use Rattle.trace_types.specs.Rules.{has, least}
 use Rattle.segment.specs.Segments.{Start}
@@ -18,7 +19,8 @@ use Rattle.heap_store.specs.Plain.{IsPlain}
 use Rattle.heap_store.specs.Stands.{Stands}
 use Rattle.collect_model.specs.Worlds.{HasEnded, arguments_of, world_of}
 use Rattle.collect_model.specs.Left.{AreLeft, AreRegistersLeft, IsLeft, IsLeftOf, WasKept}
-use Rattle.collect_model.proofs.Fields.{again, all_left}
+use Rattle.collect_model.proofs.PlainKinds.{all_left}
+use Rattle.collect_model.proofs.Fields.{again}
 use Rattle.collect_model.proofs.Landing.{Lands, landed, lands_once, lands_reached, reached_lands, same_thread}
 use Rattle.collect_model.proofs.Rereading.{ReadsAs, reads_again, value_there, values_again}
 
@@ -28,9 +30,9 @@ IsReached h targets n w set =
     (p : ℕ) (x : Start) → starts_of h p ≡ Some x → has set x.birth ≡ has (least (rules_of w)) p
 
 module _ (h : HeapView) (s : State) (targets : Targets) (n : ℕ) (hands : ℕ → Hand) (g : Starts)
-    (registers : List Value) (stands : Stands h s) (plain : IsPlain h) (is_world : IsWorld (world_of h targets n))
-    (ended : HasEnded (world_of h targets n) hands g registers) (set : List ℕ)
-    (reached : IsReached h targets n ended.setting set) where
+    (registers : List Value) (stands : Stands h s) (plain : IsPlain h)
+    (is_world : IsWorld (world_of h targets n)) (ended : HasEnded (world_of h targets n) hands g registers)
+    (set : List ℕ) (reached : IsReached h targets n ended.setting set) where
   abbrev world : World
   world = world_of h targets n
 
@@ -97,6 +99,7 @@ module _ (h : HeapView) (s : State) (targets : Targets) (n : ℕ) (hands : ℕ �
       lands_once world hands g registers is_world ended b.0 q r
       (subst (λ x. Lands world hands g x q) object a.1) b.1
 
+  -- all that starts in the end
   pub starts_left : AreLeft set (arguments_of targets) (starts_of h) g
   starts_left = record { to = to; from = from; once = once }
 
@@ -104,10 +107,9 @@ module _ (h : HeapView) (s : State) (targets : Targets) (n : ℕ) (hands : ℕ �
 
   -- what register r holds in the end, its sweeper holds
   held_by : (r : ℕ) → r < length registers → slice_get registers r ≡ (hands (r % n)).register r
-  held_by r below = elim (slice_get_cases registers r).1 [
-    | inl c ↦ c.2 ∙ sym (ended.registers r c.0 c.2)
-    | inr past ↦ absurd (omega (arith, past.0, below))
-  ]
+  held_by r below =
+      let is = slice_get-get_or registers r word.Nil below in
+      is ∙ sym (ended.registers r (get_or registers r word.Nil) is)
 
   register_again : (r : ℕ) → r < length h.registers → r < length registers
       → ReadsAs (starts_of h) g (slice_get h.registers r) (slice_get registers r)
@@ -123,6 +125,7 @@ module _ (h : HeapView) (s : State) (targets : Targets) (n : ℕ) (hands : ℕ �
       let d = ended.done.registers r t wants in
       (d.0, d.1, held_by r inside ∙ d.2))
 
+  -- and all that registers hold
   pub registers_left : length registers ≡ length h.registers
       → AreRegistersLeft (starts_of h) g h.registers registers
   registers_left count =

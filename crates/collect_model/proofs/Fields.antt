@@ -1,87 +1,23 @@
 -- The fields of an object read as before, and its words are laid out, where it stands in the end.
-use Rattle.std.proofs.Common.{◌≡◌, ℕ, ◌<◌, ◌≤◌, Bool, true, false, cond, List, [], map, length, get_or, pos, IsTrue, None, refl, sym, ◌∙◌, ap, subst, inl, inr, ◌⊎◌}
+use Rattle.std.proofs.Common.{◌≡◌, ℕ, ◌<◌, ◌≤◌, Bool, true, false, cond, List, map, length, get_or, pos, IsTrue, None, sym, ◌∙◌, ap, subst, inl, inr}
 use Rattle.std.specs.List.{AllByRecursion}
-use Rattle.std.proofs.lemmas.Bool.{both_ways, cond-false, cond-true, false≢true}
+use Rattle.std.proofs.lemmas.Bool.{both_ways}
 use Rattle.std.proofs.lemmas.Grind.{same_number_lists}
 use Rattle.gc_words.specs.declared.value.Value.{Value}
 use Rattle.gc_words.specs.Word.{value_of}
 use Rattle.trace_types.specs.declared.kind.Kind.{Kind}
-use Rattle.trace_types.specs.declared.kind.Kind.TheVariants as kind
-use Rattle.trace_types.specs.Values as values
-use Rattle.trace_types.specs.Values.{fixnum, has_bytes, is_guardian}
-use Rattle.trace_types.specs.Collections.{fields_left}
+use Rattle.trace_types.specs.Values.{fixnum, has_bytes}
 use Rattle.segment.specs.Layout.{HasLength, words_after}
 use Rattle.segment.specs.Segments.{Start}
 use Rattle.gc_mail.specs.declared.message.Slot.TheVariants as back
 use Rattle.sweep_model.specs.World.{World, IsWorld, asks, if_collected, is_strong, object_in, strong_value}
 use Rattle.sweep_model.specs.Hands.{Hand, field_of}
-use Rattle.heap_store.specs.Starts.{Starts, IsLaidOut, IsWordThere, byte_at, bytes_of, fields_of, has_values, read_word}
+use Rattle.heap_store.specs.Starts.{Starts, IsLaidOut, IsWordThere, byte_at, bytes_of, fields_of, has_values}
 use Rattle.heap_store.specs.Plain.{is_plain}
 use Rattle.collect_model.specs.Worlds.{HasEnded}
+use Rattle.collect_model.proofs.PlainKinds.{HasBytes, HasFields, fields_of-bytes, fields_of-words, fields_or_bytes, strong_value_is}
 use Rattle.collect_model.proofs.Landing.{Lands}
 use Rattle.collect_model.proofs.Rereading.{ReadsAs, reads_again, word_there, words_again}
-
--- ---- kinds
-
--- all words of such a kind are strong fields
-record HasFields (k : Kind) : Type 0 where
-  strong : (i : ℕ) → is_strong k i ≡ true
-  values : has_values k ≡ true
-  no_bytes : has_bytes k ≡ false
-  no_guardian : is_guardian k ≡ false
-
--- no word of such a kind is one
-record HasBytes (k : Kind) : Type 0 where
-  weak : (i : ℕ) → is_strong k i ≡ false
-  no_values : has_values k ≡ false
-  bytes : has_bytes k ≡ true
-
-plain_cases : (k : Kind) → is_plain k ≡ true → HasFields k ⊎ HasBytes k
-plain_cases kind.Pair is =
-    inl (record { strong = λ i. refl; values = refl; no_bytes = refl; no_guardian = refl })
-plain_cases kind.Boxed is =
-    inl (record { strong = λ i. refl; values = refl; no_bytes = refl; no_guardian = refl })
-plain_cases kind.Vector is =
-    inl (record { strong = λ i. refl; values = refl; no_bytes = refl; no_guardian = refl })
-plain_cases kind.Bytes is = inr (record { weak = λ i. refl; no_values = refl; bytes = refl })
-plain_cases kind.Weak is = absurd (false≢true is)
-plain_cases kind.Eph is = absurd (false≢true is)
-plain_cases kind.ImmVector is = absurd (false≢true is)
-plain_cases kind.ImmBytes is = absurd (false≢true is)
-plain_cases kind.Guard is = absurd (false≢true is)
-plain_cases kind.OrderedGuard is = absurd (false≢true is)
-plain_cases kind.Cell is = absurd (false≢true is)
-
--- such objects keep their fields
-pub all_left : (set : List ℕ) (k : Kind) (fields : List values.Value) → is_plain k ≡ true
-    → fields_left set k fields ≡ fields
-all_left set kind.Pair fields is = refl
-all_left set kind.Boxed fields is = refl
-all_left set kind.Vector fields is = refl
-all_left set kind.Bytes fields is = refl
-all_left set kind.Weak fields is = absurd (false≢true is)
-all_left set kind.Eph fields is = absurd (false≢true is)
-all_left set kind.ImmVector fields is = absurd (false≢true is)
-all_left set kind.ImmBytes fields is = absurd (false≢true is)
-all_left set kind.Guard fields is = absurd (false≢true is)
-all_left set kind.OrderedGuard fields is = absurd (false≢true is)
-all_left set kind.Cell fields is = absurd (false≢true is)
-
--- ---- how fields read
-
-abbrev byte_fields : Start → List values.Value
-byte_fields x = map (λ b. fixnum (pos b)) (bytes_of x.words x.length)
-
-fields_of-bytes : (f : Starts) (x : Start) → has_bytes x.kind ≡ true → fields_of f x ≡ byte_fields x
-fields_of-bytes f x bytes =
-    cond-true (has_bytes x.kind) (byte_fields x) (cond (is_guardian x.kind) [] (map (read_word f) x.words))
-    bytes
-
-fields_of-values : (f : Starts) (x : Start) → HasFields x.kind → fields_of f x ≡ map (read_word f) x.words
-fields_of-values f x has =
-    cond-false (has_bytes x.kind) (byte_fields x) (cond (is_guardian x.kind) [] (map (read_word f) x.words))
-    has.no_bytes
-    ∙ cond-false (is_guardian x.kind) [] (map (read_word f) x.words) has.no_guardian
 
 -- ---- an object in the end
 
@@ -113,11 +49,13 @@ module _ (world : World) (hands : ℕ → Hand) (g : Starts) (registers : List V
   abbrev new : Start
   new = l.kept.new
 
-  -- the value of a field
-  strong_is : (i : ℕ) (b : Bool) → is_strong old.kind i ≡ b
-      → strong_value (world.image x) i ≡ cond b (value_of (get_or old.words i 0)) None
-  strong_is i b is = ap (λ o. strong_value o i) l.kept.was
-      ∙ ap (λ z. cond z (value_of (get_or old.words i 0)) None) is
+  -- what a field asks for
+  field_asks : (i : ℕ) (b : Bool) → is_strong old.kind i ≡ b
+      → asks world (back.Field x i)
+      ≡ if_collected world (object_in (cond b (value_of (get_or old.words i 0)) None))
+  field_asks i b is =
+      ap (λ o. if_collected world (object_in o))
+      (ap (λ o. strong_value o i) l.kept.was ∙ strong_value_is old i b is)
 
   -- each word with a value reads as before
   word_again : HasFields old.kind → AllByRecursion (IsWordThere world.image) old.words → (i : ℕ)
@@ -127,7 +65,7 @@ module _ (world : World) (hands : ℕ → Hand) (g : Starts) (registers : List V
       reads_again world hands g registers good ended
       (value_of (get_or old.words i 0)) (value_of (get_or new.words i 0)) (asks world (back.Field x i))
       (word_there world.image old.words there i below)
-      (sym (ap (λ o. if_collected world (object_in o)) (strong_is i true (has.strong i))))
+      (sym (field_asks i true (has.strong i)))
       (λ none. ap value_of (l.kept.plain i none))
       (λ t wants.
       let f = ended.done.fields x p i t l.at wants in
@@ -139,7 +77,7 @@ module _ (world : World) (hands : ℕ → Hand) (g : Starts) (registers : List V
       let words = words_again world.image g old.words new.words l.kept.words
       (word_again has (laid.values has.values)) in
       record {
-        fields = fields_of-values g new has_new ∙ words.1 ∙ sym (fields_of-values world.image old has);
+        fields = fields_of-words g new has_new ∙ words.1 ∙ sym (fields_of-words world.image old has);
         laid_out = laid_again world.image g old new l.kept.kind l.kept.size l.kept.words laid (λ v. words.0)
             (λ bytes. absurd (both_ways (has_bytes new.kind) has_new.no_bytes bytes));
       }
@@ -147,7 +85,7 @@ module _ (world : World) (hands : ℕ → Hand) (g : Starts) (registers : List V
   -- where no word is a field, all are the same
   same_words : HasBytes old.kind → new.words ≡ old.words
   same_words has = same_number_lists new.words old.words l.kept.words (λ i below.
-      l.kept.plain i (ap (λ o. if_collected world (object_in o)) (strong_is i false (has.weak i))))
+      l.kept.plain i (field_asks i false (has.no_strong i)))
 
   bytes_are : HasBytes old.kind → IsLaidOut world.image old → IsAgain world.image g old new
   bytes_are has laid =
@@ -165,7 +103,7 @@ module _ (world : World) (hands : ℕ → Hand) (g : Starts) (registers : List V
   -- an object of either sort is as it was
   pub again : is_plain l.kept.old.kind ≡ true → IsLaidOut world.image l.kept.old
       → IsAgain world.image g l.kept.old l.kept.new
-  again is laid = elim (plain_cases old.kind is) [
+  again is laid = elim (fields_or_bytes old.kind is) [
     | inl has ↦ values_are has laid
     | inr has ↦ bytes_are has laid
   ]

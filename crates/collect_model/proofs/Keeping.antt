@@ -1,6 +1,5 @@
 -- Each object of a plain heap that is reached over addresses is kept by births.
-use Rattle.std.proofs.Common.{◌≡◌, ℕ, true, not, List, [], ◌++◌, map, filter, nat_le, nat_lt, Contains, IsTrue, Option, None, Some, refl, sym, ◌∙◌, ap, subst, inl, inr}
-use Rattle.std.proofs.lemmas.Bool.{cases_lt, le-leb, lt-ltb, both_ways, not-true}
+use Rattle.std.proofs.Common.{◌≡◌, ℕ, true, List, [], ◌++◌, map, filter, nat_lt, Contains, IsTrue, Option, None, Some, refl, sym, ◌∙◌, ap, subst, inl, inr}
 use Rattle.std.proofs.lemmas.List.Elements.{All-contains_itself, All-weaker, Contains-append_cases}
 use Rattle.std.proofs.lemmas.Option.{none-some}
 use Rattle.gc_words.specs.declared.value.Value.TheVariants as word
@@ -29,16 +28,10 @@ use Rattle.heap_store.specs.HeapView.{HeapView, starts_of}
 use Rattle.heap_store.specs.Plain.{IsPlain}
 use Rattle.heap_store.specs.Stands.{Stands}
 use Rattle.collect_model.specs.Worlds.{world_of}
-use Rattle.collect_model.proofs.References.{field_there, place_is, simple}
-use Rattle.collect_model.proofs.Graph.{found_contains, start_found}
+use Rattle.collect_model.proofs.PlainKinds.{all_strong}
+use Rattle.collect_model.proofs.References.{field_there, place_is}
+use Rattle.collect_model.proofs.Graph.{old_above, start_contained, start_found}
 use Rattle.collect_model.proofs.Members.{contains_has, has_mapped, has_one, object_there}
-
--- what is not at most a number is above it
-above : (m n : ℕ) → not (nat_le n m) ≡ true → IsTrue (nat_lt m n)
-above m n e = elim (cases_lt m n) [
-  | inl more ↦ lt-ltb m n more
-  | inr less ↦ absurd (both_ways (nat_le n m) (not-true (nat_le n m) e) (le-leb n m less))
-]
 
 module _ (h : HeapView) (s : State) (targets : Targets) (n : ℕ) (w : Setting) (stands : Stands h s)
     (plain : IsPlain h) (setting : IsSettingOf (world_of h targets n) w) where
@@ -76,11 +69,10 @@ module _ (h : HeapView) (s : State) (targets : Targets) (n : ℕ) (w : Setting) 
   older_kept p old =
       let x = older_start world p old in
       let o : Object = object_of f p x.0 [] in
-      let there : Contains s.graph (x.0.birth, o) =
-      found_contains s.graph x.0.birth o (start_found h s stands plain p x.0 x.1) in
+      let there = start_contained h s stands plain p x.0 x.1 in
       let test = λ (e : ℕ × Object). nat_lt targets.cg e.1.generation in
       let passes : IsTrue (test (x.0.birth, o)) =
-      above targets.cg x.0.generation (sym (ap (is_old targets.cg) x.1) ∙ old) in
+      sym (old_above targets.cg x.0) ∙ sym (ap (is_old targets.cg) x.1) ∙ old in
       subst (λ b. IsTrue (has K b)) (sym (ap birth_of x.1))
       (olders_kept x.0.birth
       (has_mapped (λ (e : ℕ × Object). e.0) (filter test s.graph) (x.0.birth, o)
@@ -88,7 +80,8 @@ module _ (h : HeapView) (s : State) (targets : Targets) (n : ℕ) (w : Setting) 
 
   register_kept : (r t : ℕ) → asks world (back.Register r) ≡ Some t → IsKept t
   register_kept r t e =
-      let held = place_is (world.registers r) t (collected_some world (object_in (world.registers r)) t e).0 in
+      let names = (collected_some world (object_in (world.registers r)) t e).0 in
+      let held = place_is (world.registers r) t names in
       registers_kept (birth_of (f t))
       (subst (λ vs. IsTrue (has (objects_in vs) (birth_of (f t)))) (sym stands.registers.reads)
       (object_there (read f) h.registers r (word.Object t) (birth_of (f t)) held (has_one (birth_of (f t)))))
@@ -107,7 +100,7 @@ module _ (h : HeapView) (s : State) (targets : Targets) (n : ℕ) (w : Setting) 
           kept_closed.strong y.birth (object_of f x y []) (start_found h s stands plain x y is)
           (subst (λ b. IsTrue (has K b)) (ap birth_of is) member) (birth_of (f t))
           (subst (λ vs. IsTrue (has (objects_in vs) (birth_of (f t))))
-          (sym ((simple y.kind kind).strong (fields_of f y))) among)
+          (sym (all_strong y.kind (fields_of f y) kind)) among)
 
   slot_kept : (b : Back) (t : ℕ) → asks world b ≡ Some t
       → ((x : ℕ) → IsTrue (has (rule_of (due_of world b t)).premises x) → IsKept x) → IsKept t
@@ -136,10 +129,11 @@ module _ (h : HeapView) (s : State) (targets : Targets) (n : ℕ) (w : Setting) 
 
   rule_hands_on : (r : Rule) → Contains (rules_of w) r → HandsOn r
   rule_hands_on r there =
-      elim (Contains-append_cases (facts w.older) (facts w.given ++ map rule_of (filter keeps w.dues)) r there) [
+      let dues = map rule_of (filter keeps w.dues) in
+      elim (Contains-append_cases (facts w.older) (facts w.given ++ dues) r there) [
         | inl old ↦ facts_hand_on w.older r
             (λ x c. older_kept x (sym (setting.older x) ∙ contains_has w.older x c)) old
-        | inr other ↦ elim (Contains-append_cases (facts w.given) (map rule_of (filter keeps w.dues)) r other) [
+        | inr other ↦ elim (Contains-append_cases (facts w.given) dues r other) [
           | inl given ↦ facts_hand_on w.given r
               (λ x c. absurd (contains_none x (subst (λ xs. Contains xs x) setting.given c))) given
           | inr due ↦ due_hands_on r due
@@ -149,4 +143,5 @@ module _ (h : HeapView) (s : State) (targets : Targets) (n : ℕ) (w : Setting) 
   pub reached_kept : (p : ℕ) → IsTrue (has (least (rules_of w)) p) → IsTrue (has K (birth_of (f p)))
   reached_kept =
       least_induct IsKept (rules_of w)
-      (All-weaker (Contains (rules_of w)) HandsOn rule_hands_on (rules_of w) (All-contains_itself (rules_of w)))
+      (All-weaker (Contains (rules_of w)) HandsOn rule_hands_on (rules_of w)
+      (All-contains_itself (rules_of w)))

@@ -1,16 +1,13 @@
 -- In the end an older object stands where it stood, and each copy at its place. Nothing stands elsewhere.
-use Rattle.std.proofs.Common.{◌≡◌, ℕ, true, false, List, ◌++◌, map, filter, Contains, IsTrue, Some, refl, sym, ◌∙◌, ap, inl, inr}
+use Rattle.std.proofs.Common.{◌≡◌, ℕ, false, List, Contains, IsTrue, Some, refl, sym, ◌∙◌, ap, inl, inr}
 use Rattle.std.proofs.lemmas.Bool.{cases_Bool}
 use Rattle.gc_words.specs.declared.value.Value.{Value}
 use Rattle.gc_words.specs.Layout.{thread_of}
-use Rattle.trace_types.specs.Rules.{Rule, facts, has, least}
-use Rattle.trace_types.proofs.Least.{MeetsAll-append, facts_there, least_meets}
+use Rattle.trace_types.specs.Rules.{has, least}
 use Rattle.segment.specs.Segments.{Start}
 use Rattle.gc_mail.specs.Recipients.{owner}
-use Rattle.owned_core.specs.Settings.{Setting, rule_of, rules_of}
-use Rattle.owned_core.specs.Slots.{keeps}
-use Rattle.sweep_model.specs.World.{World, IsWorld, is_collected, is_older}
-use Rattle.sweep_model.specs.Settings.{IsSettingOf}
+use Rattle.owned_core.specs.Settings.{rules_of}
+use Rattle.sweep_model.specs.World.{World, IsWorld, is_collected}
 use Rattle.sweep_model.specs.Hands.{Hand, IsAt, IsKeptAt, Tied}
 use Rattle.sweep_model.proofs.Ages.{staying_older}
 use Rattle.sweep_model.proofs.Apt.{owner_in}
@@ -18,6 +15,7 @@ use Rattle.sweep_model.proofs.Memory.{one_place}
 use Rattle.heap_store.specs.Starts.{Starts}
 use Rattle.heap_store.proofs.Kept.{some_is}
 use Rattle.collect_model.specs.Worlds.{HasEnded}
+use Rattle.collect_model.proofs.RulesReach.{older_reached}
 
 -- what its owner kept of the object x stands at p
 pub record Lands (world : World) (hands : ℕ → Hand) (g : Starts) (x p : ℕ) : Type 0 where
@@ -25,20 +23,12 @@ pub record Lands (world : World) (hands : ℕ → Hand) (g : Starts) (x p : ℕ)
   pub kept : IsKeptAt world (hands (owner world.sweepers x)) x p
   pub here : g p ≡ Some kept.new
 
--- the rules reach each older object
-pub older_reached : (world : World) (w : Setting) → IsSettingOf world w → (x : ℕ) → is_older world x ≡ true
-    → IsTrue (has (least (rules_of w)) x)
-older_reached world w setting x old =
-    let rest : List Rule = facts w.given ++ map rule_of (filter keeps w.dues) in
-    let met = (MeetsAll-append (facts w.older) rest (least (rules_of w))).0 (least_meets (rules_of w)) in
-    facts_there w.older (least (rules_of w)) met.0 x (setting.older x ∙ old)
-
 module _ (world : World) (hands : ℕ → Hand) (g : Starts) (registers : List Value) (good : IsWorld world)
     (ended : HasEnded world hands g registers) where
   -- ---- places
 
   -- each object is of a hand that is tied
-  pub tied_at : (x : ℕ) → Tied world (hands (owner world.sweepers x))
+  tied_at : (x : ℕ) → Tied world (hands (owner world.sweepers x))
   tied_at x = ended.tied (owner world.sweepers x) (owner_in world.sweepers x good.some)
 
   number_at : (x : ℕ) → owner world.sweepers x ≡ (hands (owner world.sweepers x)).number

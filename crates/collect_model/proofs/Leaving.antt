@@ -12,14 +12,16 @@ use Rattle.heap_store.specs.Starts.{is_cell}
 use Rattle.heap_store.specs.HeapView.{HeapView, starts_in, starts_of}
 use Rattle.heap_store.specs.Plain.{IsPlain, is_plain}
 use Rattle.heap_store.specs.Stands.{AreSettled, Stands}
+use Rattle.heap_store.proofs.Plain.{plain_no_cell}
 use Rattle.collect_model.specs.Left.{AreLeft, AreRegistersLeft}
-use Rattle.collect_model.proofs.LeavingPlain.{none_registered, plain_no_cell}
+use Rattle.collect_model.proofs.Graph.{nothing_registered}
 use Rattle.collect_model.proofs.LeavingGraph.{closed_left, graph_left_stands}
 use Rattle.collect_model.proofs.LeavingRoots.{locks_left, notes_left, registry_left}
 
 -- the heap of what is left of the kept starts and of the registers stands for the collected state
-pub left_stands : (h : HeapView) (s : State) (a : Arguments) (territories : List TerritoryView) (registers : List Value)
-    → Stands h s → IsPlain h → IsTrue (are_allowed s.version s.oldest a) → AreSettled territories
+pub left_stands : (h : HeapView) (s : State) (a : Arguments) (territories : List TerritoryView)
+    (registers : List Value) → Stands h s → IsPlain h
+    → IsTrue (are_allowed s.version s.oldest a) → AreSettled territories
     → AreLeft (kept s a.cg) a (starts_of h) (starts_in territories)
     → AreRegistersLeft (starts_of h) (starts_in territories) h.registers registers
     → Stands (record h { territories = territories; registers = registers }) (collect s a)
@@ -49,12 +51,12 @@ left_stands h s a territories registers stands plain allowed settled left held =
 }
   where
     none : s.registrations ≡ []
-    none = none_registered h s stands plain
+    none = nothing_registered h s stands plain
 
     no_cell : (q : ℕ) (y : Start) → starts_in territories q ≡ Some y → is_cell y.kind ≡ false
     no_cell q y here =
         let was = left.from q y here in
-        ap is_cell was.left.kind ∙ plain_no_cell was.start.kind (plain.kinds was.place was.start was.there)
+        ap is_cell was.left.kind ∙ plain_no_cell h plain was.place was.start was.there
 
 -- it has no other kinds of objects than before
 pub plain_left : (h : HeapView) (territories : List TerritoryView) (registers : List Value) (set : List ℕ)

@@ -1,5 +1,5 @@
 -- What is left of plain starts is the graph that a collection leaves.
-use Rattle.std.proofs.Common.{◌≡◌, ℕ, Bool, true, false, List, [], ◌++◌, map, filter, ◌&&◌, ◌==◌, cond, IsTrue, Option, Some, None, option_map, refl, sym, ap, ◌∙◌}
+use Rattle.std.proofs.Common.{◌≡◌, ℕ, Bool, true, false, List, [], map, filter, ◌&&◌, ◌==◌, cond, IsTrue, Option, Some, None, option_map, refl, sym, ap, ◌∙◌}
 use Rattle.std.proofs.lemmas.Bool.{cond-true}
 use Rattle.std.proofs.lemmas.Option.{none-some}
 use Rattle.trace_types.specs.Values.{Object, is_guardian, object_at}
@@ -10,11 +10,12 @@ use Rattle.trace_types.specs.Collections.{Arguments, collect, object_left, queue
 use Rattle.trace_types.proofs.Finding.{left_found}
 use Rattle.segment.specs.Segments.{Start}
 use Rattle.heap_store.specs.Starts.{Starts, is_cell, object_of, IsClosed}
-use Rattle.heap_store.specs.Queues.{Queue}
 use Rattle.heap_store.specs.Graphs.{GraphStands, HasPlace, IsInGraph}
-use Rattle.heap_store.proofs.Kept.{empty_queue, no_queue}
+use Rattle.heap_store.proofs.Kept.{empty_queue}
+use Rattle.heap_store.proofs.Plain.{plain_kind}
 use Rattle.collect_model.specs.Left.{AreLeft, IsLeftOf}
-use Rattle.collect_model.proofs.LeavingPlain.{ArePlain, plain_no_cell, plain_no_guardian}
+use Rattle.collect_model.proofs.PlainKinds.{ArePlain}
+use Rattle.collect_model.proofs.Graph.{plain_found}
 
 -- what is left is closed
 pub closed_left : (set : List ℕ) (a : Arguments) (f g : Starts) → AreLeft set a f g → IsClosed g
@@ -38,34 +39,30 @@ none_queued s cg birth none =
 module _ (f g : Starts) (s : State) (a : Arguments) (kinds : ArePlain f) (none : s.registrations ≡ [])
     (stands : GraphStands f s.graph) (left : AreLeft (kept s a.cg) a f g) where
   -- what is left, as an object of the graph
-  same_object : (p q : ℕ) (x y : Start) (queue : Queue) → queue ≡ [] → IsLeftOf (kept s a.cg) a f g p x q y
-      → object_of g q y [] ≡ object_left s a x.birth (object_of f p x queue)
-  same_object p q x y queue empty is = λ i. let o : Object = record {
+  same_object : (p q : ℕ) (x y : Start) → IsLeftOf (kept s a.cg) a f g p x q y
+      → object_of g q y [] ≡ object_left s a x.birth (object_of f p x [])
+  same_object p q x y is = λ i. let o : Object = record {
     kind = is.kind i;
     creator = is.thread i;
     generation = is.generation i;
     fields = is.fields i;
-    queue = nothing i;
+    queue = sym (none_queued s a.cg x.birth none) i;
   } in o
-    where
-      nothing : [] ≡ queue ++ queued_for s a.cg x.birth
-      nothing = sym (ap (λ q. q ++ queued_for s a.cg x.birth) empty ∙ none_queued s a.cg x.birth none)
 
   objects_left : (q : ℕ) (y : Start) → g q ≡ Some y → IsInGraph g (collect s a).graph q y
   objects_left q y here =
       let was = left.from q y here in
       let x = was.start in
-      let is = kinds was.place x was.there in
-      let old = stands.objects was.place x was.there (plain_no_cell x.kind is) in
-      let empty = no_queue f was.place x old.cells old.queue (plain_no_guardian x.kind is) old.has_queue in
+      let no_guardian = (plain_kind x.kind (kinds was.place x was.there)).no_guardian in
+      let old = plain_found f s.graph kinds stands was.place x was.there in
       record {
         cells = [];
         queue = [];
-        has_queue = empty_queue g q y (ap is_guardian was.left.kind ∙ plain_no_guardian x.kind is);
+        has_queue = empty_queue g q y (ap is_guardian was.left.kind ∙ no_guardian);
         found =
             ap (object_at (collect s a).graph) was.left.birth
-            ∙ kept_found s a x.birth (object_of f was.place x old.queue) was.kept old.found
-            ∙ ap Some (sym (same_object was.place q x y old.queue empty was.left));
+            ∙ kept_found s a x.birth (object_of f was.place x []) was.kept old
+            ∙ ap Some (sym (same_object was.place q x y was.left));
       }
 
   place_left : (birth : ℕ) → IsTrue (has (kept s a.cg) birth) → HasPlace f birth → HasPlace g birth

@@ -1,5 +1,5 @@
 -- What has no locks, notes and registrations has none after a collection.
-use Rattle.std.proofs.Common.{◌≡◌, ℕ, zero, suc, true, not, List, [], ◌∷◌, map, filter, flat_map, replicate, ◌&&◌, IsTrue, IsSome, Option, Some, None, nat_cmp, refl, sym, ap, subst, ◌∙◌}
+use Rattle.std.proofs.Common.{◌≡◌, ℕ, zero, suc, not, List, [], ◌∷◌, map, filter, flat_map, replicate, ◌&&◌, IsTrue, IsSome, Option, Some, None, nat_cmp, refl, sym, ap, subst, ◌∙◌}
 use Rattle.std.specs.List.{AllByRecursion}
 use Rattle.std.specs.FinMap.{find}
 use Rattle.std.proofs.lemmas.Bool.{false≢true}
@@ -15,32 +15,34 @@ use Rattle.heap_store.specs.Starts.{Starts, birth_of, is_object}
 use Rattle.heap_store.specs.Registries.{level_count}
 use Rattle.heap_store.specs.Roots.{IsNoteThere, IsRegistrationThere, LocksStand, NotesStand, RegistryStands, by_line, level_of, read_note, read_registration}
 use Rattle.heap_store.proofs.Kept.{at_index}
+use Rattle.heap_store.proofs.Plain.{plain_kind}
 use Rattle.collect_model.specs.Left.{AreLeft}
-use Rattle.collect_model.proofs.LeavingPlain.{ArePlain, plain_no_cell}
+use Rattle.collect_model.proofs.PlainKinds.{ArePlain}
 
 -- ---- locks
 
 module _ (f g : Starts) (s : State) (a : Arguments) (counts : List (ℕ × ℕ)) (none : counts ≡ [])
-    (set : List ℕ) (kinds : ArePlain f) (left : AreLeft set a f g) (stands : LocksStand f counts s.locks) where
-  unlocked_before : (p : ℕ) (x : Start) → f p ≡ Some x → find nat_cmp x.birth s.locks ≡ None
-  unlocked_before p x there =
-      let no_cell = plain_no_cell x.kind (kinds p x there) in
-      ap (λ o. find nat_cmp (birth_of o) s.locks) (sym there)
-      ∙ stands.same p (ap is_object there ∙ ap not no_cell) ∙ ap (find nat_cmp p) none
+    (set : List ℕ) (kinds : ArePlain f) (left : AreLeft set a f g) (stands : LocksStand f counts s.locks)
+  where
+    unlocked_before : (p : ℕ) (x : Start) → f p ≡ Some x → find nat_cmp x.birth s.locks ≡ None
+    unlocked_before p x there =
+        let no_cell = (plain_kind x.kind (kinds p x there)).no_cell in
+        ap (λ o. find nat_cmp (birth_of o) s.locks) (sym there)
+        ∙ stands.same p (ap is_object there ∙ ap not no_cell) ∙ ap (find nat_cmp p) none
 
-  unlocked : (q : ℕ) (o : Option Start) → g q ≡ o → IsTrue (is_object o)
-      → find nat_cmp (birth_of o) s.locks ≡ None
-  unlocked q None here is = absurd (false≢true is)
-  unlocked q (Some y) here is =
-      let was = left.from q y here in
-      ap (λ n. find nat_cmp n s.locks) was.left.birth ∙ unlocked_before was.place was.start was.there
+    unlocked : (q : ℕ) (o : Option Start) → g q ≡ o → IsTrue (is_object o)
+        → find nat_cmp (birth_of o) s.locks ≡ None
+    unlocked q None here is = absurd (false≢true is)
+    unlocked q (Some y) here is =
+        let was = left.from q y here in
+        ap (λ n. find nat_cmp n s.locks) was.left.birth ∙ unlocked_before was.place was.start was.there
 
-  -- nothing that is left is locked
-  pub locks_left : LocksStand g counts s.locks
-  locks_left = record {
-    there = λ q is. absurd (false≢true (subst (λ locks. IsSome (find nat_cmp q locks)) none is));
-    same = λ q is. unlocked q (g q) refl is ∙ sym (ap (find nat_cmp q) none);
-  }
+    -- nothing that is left is locked
+    pub locks_left : LocksStand g counts s.locks
+    locks_left = record {
+      there = λ q is. absurd (false≢true (subst (λ locks. IsSome (find nat_cmp q locks)) none is));
+      same = λ q is. unlocked q (g q) refl is ∙ sym (ap (find nat_cmp q) none);
+    }
 
 -- ---- notes
 

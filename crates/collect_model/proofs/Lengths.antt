@@ -1,17 +1,18 @@
 -- Lists of the same births, none of them twice, have one length.
-use Rattle.std.proofs.Common.{◌≡◌, ℕ, false, List, [], ◌∷◌, map, length, nat_cmp, nat_eq, sum_by, Contains, IsTrue, refl, sym, subst, arith}
+use Rattle.std.proofs.Common.{◌≡◌, ℕ, false, List, [], ◌∷◌, map, length, nat_cmp, nat_eq, sum_by, Contains, IsTrue, refl, sym, arith}
 use Rattle.std.specs.FinMap.{is_sorted}
 use Rattle.std.specs.FinMap.Entries.{below_all}
-use Rattle.std.specs.List.{AllByRecursion, IsDistinct, list_any}
-use Rattle.std.proofs.lemmas.Bool.{and_parts, eq-eqb, eqb-false, eqb-true, ne_eqb}
+use Rattle.std.specs.List.{IsDistinct, list_any}
+use Rattle.std.proofs.lemmas.Bool.{and_parts, eqb-false, eqb-true, ne_eqb}
 use Rattle.std.proofs.lemmas.Cmp.{nat_eq_equiv}
 use Rattle.std.proofs.lemmas.List.Sums.{sum_by-cons}
 use Rattle.std.proofs.lemmas.Map.Made.{length-from_same_keys}
+use Rattle.std.proofs.lemmas.Map.Views.{Contains-from_any, list_any-from_Contains}
 use Rattle.trace_types.specs.Values.{Graph, Object}
 use Rattle.trace_types.proofs.Least.{each_weaker}
 use Rattle.trace_types.proofs.Meeting.{each_above}
 use Rattle.trace_types.proofs.Preserving.{each_map}
-use Rattle.owned_core.proofs.Lists.{any_some, some_any}
+use Rattle.owned_core.proofs.Lists.{contains_here, contains_there}
 use Rattle.owned_core.proofs.Resting.{same_tests}
 
 -- no birth stands twice in an ordered graph
@@ -27,24 +28,19 @@ births_distinct (e ∷ graph) ordered =
       births_distinct graph parts.1,
     )
 
-member_some : (xs : List ℕ) (q : ℕ) → IsTrue (list_any (nat_eq q) xs) → Contains xs q
-member_some xs q h = let r = any_some (nat_eq q) xs h in subst (Contains xs) (sym (eqb-true q r.0 r.2)) r.1
-
-some_member : (xs : List ℕ) (q : ℕ) → Contains xs q → IsTrue (list_any (nat_eq q) xs)
-some_member xs q c = some_any (nat_eq q) xs q c (eq-eqb q q refl)
-
 -- where each has the other's births, both are as long
 pub length-same : (xs ys : List ℕ) → IsDistinct nat_eq xs → IsDistinct nat_eq ys
     → ((q : ℕ) → Contains xs q → Contains ys q) → ((q : ℕ) → Contains ys q → Contains xs q)
     → length xs ≡ length ys
-length-same xs ys first second to from =
-    length-from_same_keys nat_eq_equiv xs ys first second (λ q.
+length-same xs ys first second to from = length-from_same_keys nat_eq_equiv xs ys first second (λ q.
     same_tests (list_any (nat_eq q) xs) (list_any (nat_eq q) ys)
-    (λ h. some_member ys q (to q (member_some xs q h)))
-    (λ h. some_member xs q (from q (member_some ys q h))))
+    (λ h. list_any-from_Contains nat_eq_equiv q ys (to q (Contains-from_any eqb-true q xs h)))
+    (λ h. list_any-from_Contains nat_eq_equiv q xs (from q (Contains-from_any eqb-true q ys h))))
 
 -- a sum of ones
-pub sum_by-one : {X : Type 0} (f : X → ℕ) (xs : List X) → AllByRecursion (λ x. f x ≡ 1) xs
+pub sum_by-one : {X : Type 0} (f : X → ℕ) (xs : List X) → ((x : X) → Contains xs x → f x ≡ 1)
     → sum_by f xs ≡ length xs
-sum_by-one f [] all = refl
-sum_by-one f (x ∷ xs) all = omega (arith, sum_by-cons f x xs, all.0, sum_by-one f xs all.1)
+sum_by-one f [] each = refl
+sum_by-one f (x ∷ xs) each =
+    let rest = sum_by-one f xs (λ y c. each y (contains_there x xs y c)) in
+    omega (arith, sum_by-cons f x xs, each x (contains_here x xs), rest)

@@ -1,5 +1,5 @@
 -- Members of lists of births, and the objects among values that are read.
-use Rattle.std.proofs.Common.{◌≡◌, ℕ, zero, suc, ◌==◌, true, false, List, [], ◌∷◌, map, slice_get, Contains, IsTrue, Some, refl, sym, subst, inl, inr}
+use Rattle.std.proofs.Common.{◌≡◌, ℕ, zero, suc, ◌==◌, false, List, [], ◌∷◌, map, slice_get, Contains, IsTrue, Some, refl, sym, subst, inl, inr}
 use Rattle.std.specs.List.{AllByRecursion}
 use Rattle.std.proofs.lemmas.Bool.{eq-eqb, eqb-true, false≢true, or_cases, or_left, or_right}
 use Rattle.std.proofs.lemmas.Option.{none-some, same_Some}
@@ -22,7 +22,8 @@ pub has_one : (x : ℕ) → IsTrue (has (x ∷ []) x)
 has_one x = or_left (x == x) false (eq-eqb x x refl)
 
 -- what each gives is there
-pub has_mapped : {X : Type 0} (g : X → ℕ) (xs : List X) (x : X) → Contains xs x → IsTrue (has (map g xs) (g x))
+pub has_mapped : {X : Type 0} (g : X → ℕ) (xs : List X) (x : X) → Contains xs x
+    → IsTrue (has (map g xs) (g x))
 has_mapped g xs x c = contains_has (map g xs) (g x) (some_map g xs x c)
 
 -- and what is there, one gives
@@ -32,6 +33,7 @@ mapped_from g xs y h = map_some g xs y (has_contains (map g xs) y h)
 
 -- ---- elements by index
 
+-- what holds of each holds of the one at an index
 pub each_at : {X : Type 0} (P : X → Type 0) (xs : List X) (i : ℕ) (x : X) → AllByRecursion P xs
     → slice_get xs i ≡ Some x → P x
 each_at P [] i x all e = absurd (none-some x e)
@@ -50,8 +52,8 @@ object_from g (x ∷ xs) y h =
     ]
 
 -- and each is among them
-pub object_there : {X : Type 0} (g : X → Value) (xs : List X) (i : ℕ) (x : X) (y : ℕ) → slice_get xs i ≡ Some x
-    → IsTrue (has (object_in (g x)) y) → IsTrue (has (objects_in (map g xs)) y)
+pub object_there : {X : Type 0} (g : X → Value) (xs : List X) (i : ℕ) (x : X) (y : ℕ)
+    → slice_get xs i ≡ Some x → IsTrue (has (object_in (g x)) y) → IsTrue (has (objects_in (map g xs)) y)
 object_there g [] i x y e h = absurd (none-some x e)
 object_there g (z ∷ xs) zero x y e h =
     subst IsTrue (sym (has-append (object_in (g z)) (objects_in (map g xs)) y))

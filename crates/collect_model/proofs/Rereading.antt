@@ -1,7 +1,7 @@
 -- A value that was there reads in the end, where it now refers to, as it read before.
-use Rattle.std.proofs.Common.{◌≡◌, ℕ, zero, suc, ◌<◌, Bool, true, false, not, cond, List, [], ◌∷◌, map, length, get_or, slice_get, Contains, IsTrue, Option, None, Some, refl, sym, ◌∙◌, ap, subst, arith}
+use Rattle.std.proofs.Common.{◌≡◌, ℕ, suc, ◌<◌, Bool, true, false, not, cond, List, [], ◌∷◌, map, length, get_or, slice_get, Contains, IsTrue, Option, None, Some, refl, sym, ◌∙◌, ap, subst, arith}
 use Rattle.std.specs.List.{AllByRecursion}
-use Rattle.std.proofs.lemmas.Option.{none-some, same_Some}
+use Rattle.std.proofs.lemmas.Option.{none-some, slice_get-get_or}
 use Rattle.gc_words.specs.declared.value.Value.{Value}
 use Rattle.gc_words.specs.declared.value.Value.TheVariants as word
 use Rattle.gc_words.specs.Word.{value_of}
@@ -13,6 +13,8 @@ use Rattle.sweep_model.proofs.Names.{collected_some}
 use Rattle.heap_store.specs.Starts.{Starts, IsThere, IsThereOption, IsWordThere, birth_of, is_cell, is_object, read, read_option, read_word}
 use Rattle.heap_store.proofs.Kept.{object_some, some_is}
 use Rattle.collect_model.specs.Worlds.{HasEnded}
+use Rattle.collect_model.proofs.Members.{each_at}
+use Rattle.collect_model.proofs.References.{place_is}
 use Rattle.collect_model.proofs.Landing.{Lands, copy_lands, older_lands}
 
 -- o' is there in g, and reads as o does in f
@@ -22,54 +24,49 @@ pub record ReadsAs (f g : Starts) (o o' : Option Value) : Type 0 where
 
 -- ---- lists
 
+-- lists whose values read alike, each with its own
+each_again : {X : Type 0} (value : X → Option Value) (f g : Starts) (xs ys : List X) (d : X)
+    → length ys ≡ length xs
+    → ((i : ℕ) → i < length xs → ReadsAs f g (value (get_or xs i d)) (value (get_or ys i d)))
+    → AllByRecursion (λ y. IsThereOption g (value y)) ys
+    × (map (λ y. read_option g (value y)) ys ≡ map (λ x. read_option f (value x)) xs)
+each_again value f g [] [] d count each = (tt, refl)
+each_again value f g [] (y ∷ ys) d count each = absurd (omega arith)
+each_again value f g (x ∷ xs) [] d count each = absurd (omega arith)
+each_again value f g (x ∷ xs) (y ∷ ys) d count each =
+    let first = each 0 (omega arith) in
+    let rest = each_again value f g xs ys d (omega arith) (λ i below. each (suc i) (omega arith)) in
+    ((first.there, rest.0), λ i. first.same i ∷ rest.1 i)
+
 -- words that read alike, each with its own
 pub words_again : (f g : Starts) (ws ws' : List ℕ) → length ws' ≡ length ws
     → ((i : ℕ) → i < length ws → ReadsAs f g (value_of (get_or ws i 0)) (value_of (get_or ws' i 0)))
     → AllByRecursion (IsWordThere g) ws' × (map (read_word g) ws' ≡ map (read_word f) ws)
-words_again f g [] [] count each = (tt, refl)
-words_again f g [] (w ∷ ws') count each = absurd (omega arith)
-words_again f g (w ∷ ws) [] count each = absurd (omega arith)
-words_again f g (w ∷ ws) (w' ∷ ws') count each =
-    let first = each 0 (omega arith) in
-    let rest = words_again f g ws ws' (omega arith) (λ i below. each (suc i) (omega arith)) in
-    ((first.there, rest.0), λ i. first.same i ∷ rest.1 i)
+words_again f g ws ws' = each_again value_of f g ws ws' 0
 
 -- and values
 pub values_again : (f g : Starts) (vs vs' : List Value) → length vs' ≡ length vs
     → ((i : ℕ) → i < length vs → ReadsAs f g (slice_get vs i) (slice_get vs' i))
     → AllByRecursion (IsThere g) vs' × (map (read g) vs' ≡ map (read f) vs)
-values_again f g [] [] count each = (tt, refl)
-values_again f g [] (v ∷ vs') count each = absurd (omega arith)
-values_again f g (v ∷ vs) [] count each = absurd (omega arith)
-values_again f g (v ∷ vs) (v' ∷ vs') count each =
-    let first = each 0 (omega arith) in
-    let rest = values_again f g vs vs' (omega arith) (λ i below. each (suc i) (omega arith)) in
-    ((first.there, rest.0), λ i. first.same i ∷ rest.1 i)
+values_again f g vs vs' count each = each_again Some f g vs vs' word.Nil count (λ i below.
+    subst (λ o. ReadsAs f g o (Some (get_or vs' i word.Nil))) (slice_get-get_or vs i word.Nil below)
+    (subst (ReadsAs f g (slice_get vs i)) (slice_get-get_or vs' i word.Nil (omega (arith, count, below)))
+    (each i below)))
 
 -- a word of words that are there is there
 pub word_there : (f : Starts) (ws : List ℕ) → AllByRecursion (IsWordThere f) ws → (i : ℕ) → i < length ws
     → IsWordThere f (get_or ws i 0)
-word_there f [] all i below = absurd (omega arith)
-word_there f (w ∷ ws) all zero below = all.0
-word_there f (w ∷ ws) all (suc i) below = word_there f ws all.1 i (omega arith)
+word_there f ws all i below =
+    each_at (IsWordThere f) ws i (get_or ws i 0) all (slice_get-get_or ws i 0 below)
 
 -- and a value
 pub value_there : (f : Starts) (vs : List Value) → AllByRecursion (IsThere f) vs → (i : ℕ) → i < length vs
     → IsThereOption f (slice_get vs i)
-value_there f [] all i below = absurd (omega arith)
-value_there f (v ∷ vs) all zero below = all.0
-value_there f (v ∷ vs) all (suc i) below = value_there f vs all.1 i (omega arith)
+value_there f vs all i below =
+    let is = slice_get-get_or vs i word.Nil below in
+    subst (IsThereOption f) (sym is) (each_at (IsThere f) vs i (get_or vs i word.Nil) all is)
 
 -- ---- values
-
-object_is : (o : Option Value) (t : ℕ) → object_in o ≡ Some t → o ≡ Some (word.Object t)
-object_is None t e = absurd (none-some t e)
-object_is (Some (word.Fixnum z)) t e = absurd (none-some t e)
-object_is (Some word.Nil) t e = absurd (none-some t e)
-object_is (Some word.True) t e = absurd (none-some t e)
-object_is (Some word.False) t e = absurd (none-some t e)
-object_is (Some word.Bwp) t e = absurd (none-some t e)
-object_is (Some (word.Object a)) t e = ap (λ z. Some (word.Object z)) (same_Some a t e)
 
 none_collected : (b : Bool) (t : ℕ) → cond b (Some t) None ≡ None → b ≡ false
 none_collected true t e = absurd (none-some t (sym e))
@@ -109,7 +106,7 @@ module _ (world : World) (hands : ℕ → Hand) (g : Starts) (registers : List V
   moves : (o : Option Value) (t q : ℕ) → IsThereOption world.image o → object_in o ≡ Some t
       → Contains (hands (owner world.sweepers t)).own (t, q) → ReadsAs world.image g o (Some (word.Object q))
   moves o t q there names copy =
-      let is = object_is o t names in
+      let is = place_is o t names in
       let at = object_again world hands g t q (copy_lands world hands g registers good ended t q copy)
       (subst (IsThereOption world.image) is there) in
       subst (λ z. ReadsAs world.image g z (Some (word.Object q))) (sym is) at

@@ -10,7 +10,8 @@ abbrev pub is_copied_by : List ℕ → ℕ → ℕ → ℕ → ℕ × Object →
 is_copied_by set cg n k entry =
     has set entry.0 && nat_le entry.1.generation cg && (entry.1.creator % n == k)
 
--- Sweeper k of n copies the kept objects of its threads that are collected, and a cell for each entry of their queues.
+-- Sweeper k of n copies the kept objects of its threads that are collected, and a cell for each entry of
+-- their queues.
 abbrev pub copied_by : State → ℕ → ℕ → ℕ → ℕ
 copied_by s cg n k =
     sum_by (λ entry. 1 + length entry.1.queue) (filter (is_copied_by (kept s cg) cg n k) s.graph)

@@ -25,22 +25,25 @@ KeptIsLeast =
     → IsSettingOf (world_of h targets n) w → (p : ℕ) (x : Start) → starts_of h p ≡ Some x
     → has (kept s targets.cg) x.birth ≡ has (least (rules_of w)) p
 
--- Where a collection of a heap has ended, the heap of what starts then stands for the collected state. It has no other
--- kinds of objects than before.
+-- Where a collection of a heap has ended, the heap of what starts then stands for the collected state. It has
+-- no other kinds of objects than before.
 abbrev pub CollectedStands : Type 0
 CollectedStands =
-    (h : HeapView) (s : State) (targets : Targets) (n : ℕ) (hands : ℕ → Hand) (territories : List TerritoryView)
-    (registers : List Value) → Stands h s → IsPlain h → IsWorld (world_of h targets n)
+    (h : HeapView) (s : State) (targets : Targets) (n : ℕ) (hands : ℕ → Hand)
+    (territories : List TerritoryView) (registers : List Value)
+    → Stands h s → IsPlain h → IsWorld (world_of h targets n)
     → IsTrue (are_allowed s.version s.oldest (arguments_of targets)) → AreSettled territories
     → HasEnded (world_of h targets n) hands (starts_in territories) registers
     → length registers ≡ length h.registers
-    → Stands (record h { territories = territories; registers = registers }) (collect s (arguments_of targets))
+    → Stands (record h { territories = territories; registers = registers })
+    (collect s (arguments_of targets))
     × IsPlain (record h { territories = territories; registers = registers })
 
 -- and each sweeper copied what its threads' kept objects add up to
 abbrev pub CopiesAreCounted : Type 0
 CopiesAreCounted =
-    (h : HeapView) (s : State) (targets : Targets) (n : ℕ) (hands : ℕ → Hand) (territories : List TerritoryView)
-    (registers : List Value) → Stands h s → IsPlain h → IsWorld (world_of h targets n)
+    (h : HeapView) (s : State) (targets : Targets) (n : ℕ) (hands : ℕ → Hand)
+    (territories : List TerritoryView) (registers : List Value)
+    → Stands h s → IsPlain h → IsWorld (world_of h targets n)
     → HasEnded (world_of h targets n) hands (starts_in territories) registers
     → (k : ℕ) → k < n → length (hands k).own ≡ copied_by s targets.cg n k

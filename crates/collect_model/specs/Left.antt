@@ -8,8 +8,8 @@ use Rattle.trace_types.specs.Collections.{Arguments, fields_left, target}
 use Rattle.segment.specs.Segments.{Start}
 use Rattle.heap_store.specs.Starts.{Starts, IsLaidOut, IsThere, fields_of, read}
 
--- y at q in g is what is left of x at p in f: the same object in its target generation, with the fields that are left
--- where these objects are kept
+-- y at q in g is what is left of x at p in f: the same object in its target generation, with the fields that
+-- are left where these objects are kept
 pub record IsLeftOf (kept : List ℕ) (a : Arguments) (f g : Starts) (p : ℕ) (x : Start) (q : ℕ) (y : Start)
     : Type 0 where
   pub kind : y.kind ≡ x.kind

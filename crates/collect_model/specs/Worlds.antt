@@ -32,8 +32,8 @@ world_of h targets n = world_in h.territories h.registers targets n
 abbrev pub arguments_of : Targets → Arguments
 arguments_of targets = record { cg = targets.cg; least = targets.min; greatest = targets.max }
 
--- The sweepers have come to their end. What starts afterwards, g, is what they have: older objects where they were, and
--- copies at their places. The registers hold what the sweepers' registers hold.
+-- The sweepers have come to their end. What starts afterwards, g, is what they have: older objects where they
+-- were, and copies at their places. The registers hold what the sweepers' registers hold.
 pub record HasEnded (world : World) (hands : ℕ → Hand) (g : Starts) (held : List Value) : Type 0 where
   pub setting : Setting
   pub is_setting : IsSettingOf world setting

@@ -1,7 +1,7 @@
 //! The territories and registers of all sweepers are put together again.
 
 ghost use Rattle.std.specs.Prelude.{◌≡◌, ◌≢◌, ℕ, ◌<◌, ◌≤◌, length, IfOk};
-ghost use Rattle.sweep_share.specs.Registers.{item_at};
+ghost use Rattle.sweep_share.specs.Registers.{AreRegistersOf, item_at};
 ghost use Rattle.sweeper.specs.Sweepers.{SweeperView};
 ghost use Rattle.sweep_rounds.specs.Turns.{sweeper_at};
 ghost use Rattle.collector.specs.Dealt.{AreGathered, AreWhole};
@@ -39,6 +39,8 @@ pub(crate) fn end_all(
         × ((sweeper_at sweepers.items e k).registers.sweepers ≡ length sweepers.items) }
     requires within { (k i : ℕ) (e : SweeperView) → k < length sweepers.items
         → i < length (sweeper_at sweepers.items e k).registers.items
+        → AreRegistersOf (sweeper_at sweepers.items e k).registers.number
+        (sweeper_at sweepers.items e k).registers.sweepers (sweeper_at sweepers.items e k).registers.items
         → (item_at (sweeper_at sweepers.items e k).registers.items i).0 < length registers.old.items }
     ensures { IfOk result (λ v. AreEnded sweepers.items v.items registers.old.items registers.new.items) }
 {

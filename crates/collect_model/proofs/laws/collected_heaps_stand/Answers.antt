@@ -1,4 +1,4 @@
-use Rattle.collect_model.proofs.Reached.{kept_is_least}
+use Rattle.collect_model.proofs.KeptIsLeast.{kept_is_least}
 use Rattle.collect_model.proofs.Collected.{collected_stands, copies_are_counted}
 use Rattle.collect_model.proofs.laws.collected_heaps_stand.Goals as goal
 
