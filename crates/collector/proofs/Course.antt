@@ -1,5 +1,5 @@
 -- From begun territories to what is left of a collection: what the calls in between ask for and tell.
-use Rattle.std.proofs.Common.{◌≡◌, ℕ, ◌<◌, ◌≤◌, List, length, slice_index, slice_index_or, refl, sym, ◌∙◌, ap, subst, arith}
+use Rattle.std.proofs.Common.{◌≡◌, ℕ, ◌<◌, ◌≤◌, List, [], ◌∷◌, length, slice_index, slice_index_or, refl, sym, ◌∙◌, ap, subst, arith}
 use Rattle.gc_words.specs.declared.value.Value.{Value}
 use Rattle.territory.specs.declared.territory.Targets.{Targets}
 use Rattle.territory.specs.Territories.{HaveAddresses, TerritoryView, no_territory}
@@ -34,6 +34,11 @@ pub record IsDirected (new : List TerritoryView) (targets : Targets) (n : ℕ) (
   pub its_targets : d.targets ≡ targets
   pub count : sweeper_count d ≡ n
   pub segments : (a : ℕ) → shown (from_at d a) ≡ aside_at new a
+
+-- the first of a list
+first_of : (l : List SweeperView) → 0 < length l → SweeperView
+first_of [] some = absurd (omega (arith, some))
+first_of (v ∷ l) some = v
 
 -- what is dealt to each sweeper is its share
 pub shares_dealt : {old new : List TerritoryView} {registers : List Value} {targets : Targets} {n m : ℕ}
@@ -95,6 +100,10 @@ module _ {old new : List TerritoryView} {registers : List Value} {targets : Targ
 
     less_of : (k : ℕ) → k < length after → k < n
     less_of k inside = subst (λ c. k < c) after_count inside
+
+    -- there is one
+    pub first_after : SweeperView
+    first_after = first_of after (omega (arith, after_count, is.some))
 
     -- the registers of each sweeper are those of its number
     pub registers_number : (k : ℕ) (e : SweeperView) → k < length after

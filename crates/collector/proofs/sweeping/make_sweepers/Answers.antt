@@ -1,10 +1,100 @@
+-- One more sweeper is made.
+use Rattle.std.proofs.Common.{◌≡◌, ℕ, ◌+◌, ◌<◌, List, [], ◌∷◌, ◌++◌, get_or, length, refl, sym, ◌∙◌, ap, subst, inl, inr, arith}
+use Rattle.std.proofs.lemmas.Bool.{cases_lt}
+use Rattle.std.proofs.lemmas.List.{get_or_append_left, get_or_push, get_or_read, length_push}
+use Rattle.std.proofs.lemmas.Iterator.Adapters.{YieldsList-from_vec}
+use Rattle.std.proofs.lemmas.Iterator.Consumers.{YieldsList-turn}
+use Rattle.gc_words.specs.declared.value.Value.{Value}
+use Rattle.territory.specs.Territories.{TerritoryView}
+use Rattle.directory.specs.Directories.{DirectoryView, sweeper_count}
+use Rattle.sweep_share.specs.Registers.{AreRegistersOf}
+use Rattle.sweep_share.specs.Shares.{AreShareOf}
+use Rattle.sweeper.specs.Sweepers.{SweeperView}
+use Rattle.sweeper.specs.Starting.{IsBeginning}
+use Rattle.sweep_rounds.specs.Turns.{sweeper_at}
+use Rattle.collector.specs.Begun.{IsMade}
+use Rattle.collector.specs.Dealt.{AreRegistersDealtTo, own_at}
+use Rattle.collector.proofs.BegunDealt.{dealt_registers_of}
 use Rattle.collector.proofs.sweeping.make_sweepers.Goals as goal
 
+made_more : (d : DirectoryView) (registers : List Value) (owns : List (List TerritoryView)) (own : List TerritoryView)
+    (old all : List SweeperView) (v : SweeperView) → all ≡ old ++ v ∷ [] → length old ≡ length owns
+    → ((k : ℕ) (e : SweeperView) → k < length owns → IsMade d (own_at owns k) registers k (sweeper_at old e k))
+    → IsMade d own registers (length owns) v
+    → (k : ℕ) (e : SweeperView) → k < length owns + 1
+    → IsMade d (own_at (owns ++ own ∷ []) k) registers k (sweeper_at all e k)
+made_more d registers owns own old all v pushed count before here k e less = elim (cases_lt k (length owns)) [
+  | inl low ↦
+      subst (λ o. IsMade d o registers k (sweeper_at all e k)) (sym (get_or_append_left owns (own ∷ []) [] k low))
+      (subst (IsMade d (own_at owns k) registers k)
+      (sym (ap (λ l. sweeper_at l e k) pushed ∙ get_or_append_left old (v ∷ []) e k (omega (arith, low, count))))
+      (before k e low))
+  | inr far ↦
+      let last : length owns ≡ k = omega (arith, less, far) in
+      subst (λ j. IsMade d (own_at (owns ++ own ∷ []) j) registers j (sweeper_at all e j)) last
+      (subst (λ o. IsMade d o registers (length owns) (sweeper_at all e (length owns)))
+      (sym (get_or_push owns own [] (length owns) refl))
+      (subst (IsMade d own registers (length owns))
+      (sym (ap (λ l. sweeper_at l e (length owns)) pushed ∙ get_or_push old v e (length owns) count)) here))
+]
+
+-- the next of a list is the one at its index
+next_own : (owns : List (List TerritoryView)) (own : List TerritoryView) (number n : ℕ) → number ≡ n
+    → (n < length owns) × (own ≡ get_or owns n own) → own_at owns number ≡ own
+next_own owns own number n at turn =
+    ap (own_at owns) at ∙ sym (get_or_read owns n own turn.0 turn.1 [])
+
 pub new-requires-clause-territories : goal.new-requires-clause-territories
-new-requires-clause-territories c = ?
+new-requires-clause-territories c =
+    let gives = c.into_iter-own-iterator.ensures.into_iter_gives in
+    let turn = YieldsList-turn (YieldsList-from_vec {s = c.into_iter-own-iterator.result} c.args.owns.items gives.0 (gives.1 ∙ c.args.owns.ok.0))
+    c.loop-own.yielded _ c.loop-own.yielded_by _ _ c.in-Some.own c.in-Some.is c.next.ensures.steps in
+    let own : own_at c.args.owns.items c.loop-own.number ≡ c.in-Some.own =
+    next_own c.args.owns.items c.in-Some.own c.loop-own.number (length c.loop-own.yielded) c.loop-own.invariant.at turn in
+    subst (AreShareOf c.loop-own.number (sweeper_count c.args.directory.now))
+    (own ∙ sym c.into_territories-territories.ensures)
+    (c.requires.shares c.loop-own.number (omega (arith, turn.0, c.loop-own.invariant.at)))
 
 pub new-requires-clause-registers : goal.new-requires-clause-registers
-new-requires-clause-registers c = ?
+new-requires-clause-registers c =
+    let gives = c.into_iter-own-iterator.ensures.into_iter_gives in
+    let turn = YieldsList-turn (YieldsList-from_vec {s = c.into_iter-own-iterator.result} c.args.owns.items gives.0 (gives.1 ∙ c.args.owns.ok.0))
+    c.loop-own.yielded _ c.loop-own.yielded_by _ _ c.in-Some.own c.in-Some.is c.next.ensures.steps in
+    let own : List (ℕ × Value) = c.in_ok-own_registers.own_registers.items in
+    dealt_registers_of (sweeper_count c.args.directory.now) c.loop-own.number c.args.registers.now own
+    (omega (arith, turn.0, c.loop-own.invariant.at, c.requires.count))
+    (subst (λ n. AreRegistersDealtTo n c.loop-own.number c.args.registers.now own) c.sweepers-count.ensures.value
+    c.in_ok-own_registers.ensures)
 
 pub loop-own-preserved : goal.loop-own-preserved
-loop-own-preserved c = ?
+loop-own-preserved c =
+    let d : DirectoryView = c.args.directory.now in
+    let number : ℕ = c.loop-own.number in
+    let own : List TerritoryView = c.in-Some.own in
+    let own_registers : List (ℕ × Value) = c.in_ok-own_registers.own_registers.items in
+    let v : SweeperView = c.in_ok-new.field-0 in
+    let before = c.loop-own.invariant in
+    let at : number ≡ length c.loop-own.yielded = before.at in
+    let here : IsMade d own c.args.registers.now number v = record {
+      own_registers = own_registers;
+      dealt =
+          subst (λ n. AreRegistersDealtTo n number c.args.registers.now own_registers)
+          c.sweepers-count.ensures.value c.in_ok-own_registers.ensures;
+      begun = λ world is_world beginning.
+          c.in_ok-new.ensures.begun world is_world
+          (subst (λ ts. IsBeginning world number d ts own_registers) (sym c.into_territories-territories.ensures)
+          beginning);
+      directory = c.in_ok-new.ensures.directory;
+      number = c.in_ok-new.ensures.number;
+    } in
+    record {
+      at = ap (λ n. n + 1) at ∙ sym (length_push c.loop-own.yielded own);
+      count =
+          ap length c.in_ok-push.ensures.items
+          ∙ (length_push c.loop-own.sweepers.items v ∙ ap (λ n. n + 1) before.count);
+      made = λ k e less.
+          made_more d c.args.registers.now c.loop-own.yielded own c.loop-own.sweepers.items c.push.new.self.items v
+          c.in_ok-push.ensures.items (before.count ∙ at)
+          (λ j f low. before.made j f (subst (λ n. j < n) (sym at) low))
+          (subst (λ n. IsMade d own c.args.registers.now n v) at here) k e (subst (λ n. k < n + 1) at less);
+    }

@@ -111,3 +111,9 @@ invariant_of-self-in-Census g c = prints_last _ _ _ _ _ c.args.line c.print_cens
 
 pub invariant_of-self-in-Gen : goal.invariant_of-self-in-Gen
 invariant_of-self-in-Gen g c = prints_last _ _ _ _ _ c.args.line c.print_generation.result c.print_generation.ensures (omega (arith, c.self.invariant, c.requires.newer, ap (λ (e : EngineView). e.newest) c.self.view_is))
+
+pub returns-in-Collect-clause-kept : goal.returns-in-Collect-clause-kept
+returns-in-Collect-clause-kept g c = λ other. absurd (other c.in-Collect.args c.in-Collect.is)
+
+pub returns-in-Collect-clause-fixed : goal.returns-in-Collect-clause-fixed
+returns-in-Collect-clause-fixed g c = λ args same. rw (← c.self.view_is) c.collect_heap.ensures.fixed
