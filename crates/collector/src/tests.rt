@@ -66,3 +66,94 @@ fn copied<R: Threads + Sync>(
     }
     Ok(Ok(counts))
 }
+
+/// Makes a list of so many pairs, of the first so many threads in turn. Register 0 holds the newest pair, register 1
+/// the oldest.
+fn make_list(heap: &mut Heap, count: u32, threads: u8) -> Result<(), HeapError>
+    requires empty { heap.old.last ≡ 0 }
+    requires few { count ≤ 1000000 }
+    requires threads { (1 ≤ threads) × (threads ≤ 64) }
+    ensures { heap.new.last ≤ count }
+{
+    let (Some(newest), Some(oldest)) = (Register::new(0), Register::new(1)) else {
+        return Ok(());
+    };
+    for line in 1..count + 1 {
+        heap.select_thread(((line - 1) % u32::from(threads)) as u8)?;
+        heap.cons(line, newest, Operand::Fixnum(1), Operand::Reg(newest))?;
+        if line == 1 {
+            heap.mov(oldest, Operand::Reg(newest))?;
+        }
+    }
+    Ok(())
+}
+
+/// Lets the oldest pair of the list refer to the newest.
+fn close_ring(heap: &mut Heap) -> Result<(), HeapError>
+    ensures { heap.new.last ≡ heap.old.last }
+{
+    let (Some(newest), Some(oldest)) = (Register::new(0), Register::new(1)) else {
+        return Ok(());
+    };
+    heap.set(oldest, 1, Operand::Reg(newest))
+}
+
+/// How many of so many pairs, of eight threads in turn, each of the sweepers owns.
+fn shares(alloc: Global, pairs: u32, sweepers: u32) -> Result<Vec<u64>, Fail>
+    requires { 1 ≤ sweepers }
+{
+    let mut counts = Vec::new(alloc);
+    for sweeper in 0..sweepers {
+        counts.push((0..pairs).filter(|i| i % 8 % sweepers == sweeper).count() as u64)?;
+    }
+    Ok(counts)
+}
+
+#[test]
+fn half_a_million_pairs_are_copied(rt: HostRuntime) -> Result<(), Fail> {
+    let mut heap = Heap::new(rt.alloc(), 3)?;
+    assert_eq!(rt; make_list(&mut heap, 500_000, 1), Ok(()));
+    let counts = copied(&rt, rt.alloc(), &mut heap, YOUNG, 1)?;
+    assert_eq!(rt; counts, Ok(vec![in rt.alloc(); 500_000; 1]?));
+    Ok(())
+}
+
+#[test]
+fn each_sweeper_copies_its_share_of_a_ring(rt: HostRuntime) -> Result<(), Fail> {
+    for sweepers in [1, 2, 3, 7, 64] {
+        let mut heap = Heap::new(rt.alloc(), 3)?;
+        assert_eq!(rt; make_list(&mut heap, 200, 8), Ok(()));
+        assert_eq!(rt; close_ring(&mut heap), Ok(()));
+        for args in [YOUNG, CollectArgs::Plain] {
+            let counts = copied(&rt, rt.alloc(), &mut heap, args, sweepers)?;
+            if args == YOUNG {
+                assert_eq!(rt; counts, Ok(shares(rt.alloc(), 200, sweepers)?), "{sweepers}");
+            }
+        }
+    }
+    Ok(())
+}
+
+#[test]
+fn refuses_arguments_that_are_not_allowed(rt: HostRuntime) -> Result<(), Fail> {
+    let mut heap = Heap::new(rt.alloc(), 3)?;
+    for (cg, min, max) in [
+        (0, 2, 2),
+        (0, 0, 2),
+        (1, 0, 1),
+        (2, 3, 2),
+        (3, 2, 3),
+        (3, 3, 4),
+        (3, 8, 8),
+        (4, 4, 4),
+        (7, 8, 8),
+    ] {
+        let args = CollectArgs::Explicit { cg, min, max };
+        let answer = copied(&rt, rt.alloc(), &mut heap, args, 2)?;
+        assert_eq!(rt; answer, Err(HeapError::Fault(Fault::BadGeneration)), "{cg} {min} {max}");
+    }
+    heap.fail();
+    let answer = copied(&rt, rt.alloc(), &mut heap, YOUNG, 2)?;
+    assert_eq!(rt; answer, Err(HeapError::Failed));
+    Ok(())
+}

@@ -48,7 +48,8 @@ pub new-requires-clause-territories : goal.new-requires-clause-territories
 new-requires-clause-territories c =
     let gives = c.into_iter-own-iterator.ensures.into_iter_gives in
     let turn = YieldsList-turn (YieldsList-from_vec {s = c.into_iter-own-iterator.result} c.args.owns.items gives.0 (gives.1 ∙ c.args.owns.ok.0))
-    c.loop-own.yielded _ c.loop-own.yielded_by _ _ c.in-Some.own c.in-Some.is c.next.ensures.steps in
+    c.loop-own.yielded c.loop-own.own-iterator c.loop-own.yielded_by c.next.result c.next.new.self c.in-Some.own
+    c.in-Some.is c.next.ensures.steps in
     let own : own_at c.args.owns.items c.loop-own.number ≡ c.in-Some.own =
     next_own c.args.owns.items c.in-Some.own c.loop-own.number (length c.loop-own.yielded) c.loop-own.invariant.at turn in
     subst (AreShareOf c.loop-own.number (sweeper_count c.args.directory.now))
@@ -59,7 +60,8 @@ pub new-requires-clause-registers : goal.new-requires-clause-registers
 new-requires-clause-registers c =
     let gives = c.into_iter-own-iterator.ensures.into_iter_gives in
     let turn = YieldsList-turn (YieldsList-from_vec {s = c.into_iter-own-iterator.result} c.args.owns.items gives.0 (gives.1 ∙ c.args.owns.ok.0))
-    c.loop-own.yielded _ c.loop-own.yielded_by _ _ c.in-Some.own c.in-Some.is c.next.ensures.steps in
+    c.loop-own.yielded c.loop-own.own-iterator c.loop-own.yielded_by c.next.result c.next.new.self c.in-Some.own
+    c.in-Some.is c.next.ensures.steps in
     let own : List (ℕ × Value) = c.in_ok-own_registers.own_registers.items in
     dealt_registers_of (sweeper_count c.args.directory.now) c.loop-own.number c.args.registers.now own
     (omega (arith, turn.0, c.loop-own.invariant.at, c.requires.count))

@@ -35,7 +35,7 @@ make_sweepers-requires-clause-shares g c =
     shares_dealt is c.in_ok-directory.ensures.sweepers c.in_ok-owns.ensures
 
 pub run_to_idle-requires-clause-whole : goal.run_to_idle-requires-clause-whole
-run_to_idle-requires-clause-whole g c =
+run_to_idle-requires-clause-whole g c = λ κs h.
     let d : DirectoryView = c.in_ok-directory.directory in
     let new : List TerritoryView = c.begin_all.new.territories.items in
     let made : AreMade d c.in_ok-owns.owns.items c.args.registers.items c.in_ok-all.all.items =
