@@ -1,3 +1,4 @@
 pub mod Performing
 pub mod Collectable
 pub mod Taking
+pub mod Closing
