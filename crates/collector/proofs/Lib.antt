@@ -20,3 +20,4 @@ pub mod Swept
 pub mod Course
 pub mod DealtOut
 pub mod Taking
+pub mod Closing

@@ -1,9 +1,9 @@
 -- Territories are taken from the ends of the sweepers' lists, from the last thread to the first.
-use Rattle.std.proofs.Common.{◌≡◌, ◌≢◌, ℕ, zero, ◌+◌, ◌-◌, ◌*◌, ◌/◌, ◌%◌, ◌<◌, ◌≤◌, List, [], ◌∷◌, ◌++◌, length, reverse, set, slice_index_or, Option, None, Some, refl, sym, ◌∙◌, ap, subst, inl, inr, arith, get_or-set_same, get_or-set_other}
+use Rattle.std.proofs.Common.{◌≡◌, ◌≢◌, ℕ, ◌+◌, ◌-◌, ◌*◌, ◌/◌, ◌%◌, ◌<◌, ◌≤◌, List, [], ◌∷◌, ◌++◌, length, reverse, set, slice_index_or, Option, None, Some, refl, sym, ◌∙◌, ap, subst, inl, inr, arith, get_or-set_same, get_or-set_other}
 use Rattle.std.specs.List.{slice_get}
 use Rattle.std.proofs.Math.Nat.{add-mul-mod_self_right, add-mul-div_right, mod-lt, mul-le-mul_right}
 use Rattle.std.proofs.lemmas.Bool.{cases_eq, cases_lt}
-use Rattle.std.proofs.lemmas.List.{get_or_append_left, get_or_push, get_or-reverse, length-append, length-reverse, length-set, length_push}
+use Rattle.std.proofs.lemmas.List.{get_or_append_left, get_or_push, get_or-reverse, length-reverse, length-set, length_push}
 use Rattle.std.proofs.lemmas.Nat.{div-add-mod', le-div}
 use Rattle.std.proofs.lemmas.Option.{none-some, slice_get-get_or, slice_get_past, slice_get_within}
 use Rattle.territory.specs.Territories.{TerritoryView, no_territory}
@@ -17,9 +17,11 @@ slice_get_push_left xs y i below =
     slice_get-get_or (xs ++ y ∷ []) i y (omega (arith, below, length_push xs y))
     ∙ (ap Some (get_or_append_left xs (y ∷ []) y i below) ∙ sym (slice_get-get_or xs i y below))
 
-pub slice_get_push_here : {X : Type 0} (xs : List X) (y : X) (i : ℕ) → length xs ≡ i → slice_get (xs ++ y ∷ []) i ≡ Some y
+pub slice_get_push_here : {X : Type 0} (xs : List X) (y : X) (i : ℕ) → length xs ≡ i
+    → slice_get (xs ++ y ∷ []) i ≡ Some y
 slice_get_push_here xs y i is =
-    slice_get-get_or (xs ++ y ∷ []) i y (omega (arith, is, length_push xs y)) ∙ ap Some (get_or_push xs y y i is)
+    slice_get-get_or (xs ++ y ∷ []) i y (omega (arith, is, length_push xs y))
+    ∙ ap Some (get_or_push xs y y i is)
 
 slice_get_reverse : (xs : List TerritoryView) (i : ℕ) → i < length xs
     → slice_get (reverse xs) i ≡ slice_get xs (length xs - 1 - i)
@@ -45,9 +47,10 @@ div_less t u n same less = elim (cases_lt (t / n) (u / n)) [
 abbrev pub dealt_at : ℕ → List (List TerritoryView) → ℕ → Option TerritoryView
 dealt_at n owns t = slice_get (own_at owns (t % n)) (t / n)
 
--- The territories of the threads from `thread` on were taken from `owns`, the last thread first: `now` is left.
-pub record AreTaken (n : ℕ) (owns now : List (List TerritoryView)) (territories : List TerritoryView) (thread : ℕ)
-    : Type 0 where
+-- The territories of the threads from `thread` on were taken from `owns`, the last thread first, and `now`
+-- is left.
+pub record AreTaken (n : ℕ) (owns now : List (List TerritoryView)) (territories : List TerritoryView)
+    (thread : ℕ) : Type 0 where
   pub count : length now ≡ n
   pub taken_count : length territories + thread ≡ 64
   pub there : (t : ℕ) → t < thread → dealt_at n now t ≡ dealt_at n owns t
@@ -107,7 +110,8 @@ module _ (n : ℕ) (owns now : List (List TerritoryView)) (territories : List Te
     | inr past ↦ past
   ]
 
-  module _ (rest : List TerritoryView) (y : TerritoryView) (popped : own_at now (u % n) ≡ rest ++ y ∷ []) where
+  module _ (rest : List TerritoryView) (y : TerritoryView)
+      (popped : own_at now (u % n) ≡ rest ++ y ∷ []) where
     rest_count : length rest ≡ u / n
     rest_count =
         omega (arith, next_there, next_last, ap length popped, length_push rest y)
@@ -125,12 +129,15 @@ module _ (n : ℕ) (owns now : List (List TerritoryView)) (territories : List Te
             let low : t / n < u / n = div_less t u n e below in
             let mine : slice_get (own_at now (t % n)) (t / n) ≡ slice_get rest (t / n) =
             ap (λ k. slice_get (own_at now k) (t / n)) e
-            ∙ (ap (λ l. slice_get l (t / n)) popped ∙ slice_get_push_left rest y (t / n) (omega (arith, low, rest_count))) in
+            ∙ (ap (λ l. slice_get l (t / n)) popped
+            ∙ slice_get_push_left rest y (t / n) (omega (arith, low, rest_count))) in
             at_rest t e ∙ (sym mine ∙ taken.there t (omega (arith, below)))
         | inr ne ↦ at_others t ne ∙ taken.there t (omega (arith, below))
       ];
       gone = λ t past. elim (cases_eq (t % n) (u % n)) [
-        | inl e ↦ at_rest t e ∙ slice_get_past rest (t / n) (subst (λ m. m ≤ t / n) (sym rest_count) (le-div (u / n) t n some (omega (arith, past, div-add-mod' u n))))
+        | inl e ↦
+            let most : u / n ≤ t / n = le-div (u / n) t n some (omega (arith, past, div-add-mod' u n)) in
+            at_rest t e ∙ slice_get_past rest (t / n) (omega (arith, most, rest_count))
         | inr ne ↦ at_others t ne ∙ taken.gone t (omega (arith, past, other t ne))
       ];
       taken = λ t past below. elim (cases_eq t u) [

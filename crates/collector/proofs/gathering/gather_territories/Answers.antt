@@ -8,8 +8,8 @@ use Rattle.collector.proofs.Taking.{AreTaken, gathered, next_there, taken_more}
 use Rattle.collector.proofs.gathering.gather_territories.Goals as goal
 
 -- what was read at the sweeper's index is its list
-read_own : (now : List (List TerritoryView)) (u n m : ℕ) (own : List TerritoryView) → 1 ≤ n → length now ≡ n → m ≡ n
-    → own ≡ slice_index_or now (u % m) own → own ≡ own_at now (u % n)
+read_own : (now : List (List TerritoryView)) (u n m : ℕ) (own : List TerritoryView) → 1 ≤ n
+    → length now ≡ n → m ≡ n → own ≡ slice_index_or now (u % m) own → own ≡ own_at now (u % n)
 read_own now u n m own some count same is =
     get_or_read now (u % n) own (subst (λ k. u % n < k) (sym count) (mod-lt u some))
     (is ∙ ap (λ k. slice_index_or now (u % k) own) same) []
@@ -19,7 +19,8 @@ not_empty : (n : ℕ) (owns now : List (List TerritoryView)) (territories : List
 not_empty n owns now territories t some whole taken more empty =
     let next : t ≡ t - 1 + 1 = omega (arith, more) in
     let there : (t - 1) / n < length (own_at now ((t - 1) % n)) =
-    next_there n owns now territories (t - 1) some whole (subst (AreTaken n owns now territories) next taken) in
+    next_there n owns now territories (t - 1) some whole
+    (subst (AreTaken n owns now territories) next taken) in
     let none : length (own_at now ((t - 1) % n)) ≡ 0 = ap length empty in
     omega (arith, there, none)
 
@@ -39,10 +40,10 @@ unreachable-requires c =
     let owns = c.args.owns.items in
     let now = c.loop-thread.owns.items in
     let same : c.len.result ≡ length owns = omega (arith, c.len.ensures, c.loop-thread.owns.ok.0) in
-    not_empty (length owns) owns now c.loop-thread.territories.items c.loop-thread.thread c.requires.some c.requires.whole
-    c.loop-thread.invariant (omega arith)
-    (sym (read_own now (c.loop-thread.thread - 1) (length owns) c.len.result c.index_mut.result.now c.requires.some
-    c.loop-thread.invariant.count same c.index_mut.ensures.value) ∙ c.in_default.ensures.none)
+    not_empty (length owns) owns now c.loop-thread.territories.items c.loop-thread.thread c.requires.some
+    c.requires.whole c.loop-thread.invariant (omega arith)
+    (sym (read_own now (c.loop-thread.thread - 1) (length owns) c.len.result c.index_mut.result.now
+    c.requires.some c.loop-thread.invariant.count same c.index_mut.ensures.value) ∙ c.in_default.ensures.none)
 
 pub loop-thread-preserved : goal.loop-thread-preserved
 loop-thread-preserved c =
@@ -52,8 +53,8 @@ loop-thread-preserved c =
     one_more (length owns) c.len.result owns now c.loop-thread.territories.items c.push.new.self.items
     c.loop-thread.thread c.pop.new.self c.in-Some.territory c.requires.some same c.requires.whole
     c.loop-thread.invariant (omega arith)
-    (sym (read_own now (c.loop-thread.thread - 1) (length owns) c.len.result c.index_mut.result.now c.requires.some
-    c.loop-thread.invariant.count same c.index_mut.ensures.value) ∙ c.in-Some.ensures.some)
+    (sym (read_own now (c.loop-thread.thread - 1) (length owns) c.len.result c.index_mut.result.now
+    c.requires.some c.loop-thread.invariant.count same c.index_mut.ensures.value) ∙ c.in-Some.ensures.some)
     c.in_ok-push.ensures.items
 
 pub returns : goal.returns

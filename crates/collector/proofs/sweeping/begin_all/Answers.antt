@@ -1,5 +1,5 @@
 -- A territory that begins is put in its own place.
-use Rattle.std.proofs.Common.{◌≡◌, ℕ, ◌+◌, ◌<◌, ◌≤◌, List, length, set, Some, inl, inr, refl, sym, ◌∙◌, ap, subst, arith}
+use Rattle.std.proofs.Common.{◌≡◌, ℕ, ◌+◌, ◌<◌, List, length, set, Some, inl, inr, refl, sym, ◌∙◌, ap, subst, arith}
 use Rattle.std.specs.List.{slice_get}
 use Rattle.std.proofs.lemmas.Bool.{cases_eq}
 use Rattle.std.proofs.lemmas.List.{length-set}
@@ -12,7 +12,8 @@ use Rattle.collector.proofs.sweeping.begin_all.Goals as goal
 
 -- one more has begun
 begun_more : (old now : List TerritoryView) (i j : ℕ) (t v w u : TerritoryView) (targets : Targets)
-    → ((k : ℕ) (a b : TerritoryView) → k < i → slice_get old k ≡ Some a → slice_get now k ≡ Some b → HasBegun a b targets)
+    → ((k : ℕ) (a b : TerritoryView) → k < i → slice_get old k ≡ Some a → slice_get now k ≡ Some b
+    → HasBegun a b targets)
     → slice_get now i ≡ Some v → slice_get now i ≡ slice_get old i → HasBegun v w targets → j < i + 1
     → slice_get old j ≡ Some t → slice_get (set now i w) j ≡ Some u → HasBegun t u targets
 begun_more old now i j t v w u targets begun here same more below was is = elim (cases_eq j i) [
@@ -33,8 +34,8 @@ loop-i-preserved c =
     record {
       count = length-set now i c.begin.new.self ∙ c.loop-i.invariant.count;
       begun = λ j t u.
-          begun_more c.args.territories.now.items now i j t c.index_mut.result.now c.begin.new.self u c.args.targets
-          c.loop-i.invariant.begun
+          begun_more c.args.territories.now.items now i j t c.index_mut.result.now c.begin.new.self u
+          c.args.targets c.loop-i.invariant.begun
           (slice_get_read now (length now) i c.index_mut.result.now refl within c.index_mut.ensures.value)
           (c.loop-i.invariant.others i (omega arith))
           (record {
