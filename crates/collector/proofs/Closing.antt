@@ -8,7 +8,7 @@ use Rattle.std.proofs.lemmas.Option.{get_or_from_slice_get, none-some, same_Some
 use Rattle.gc_words.specs.declared.value.Value.{Value}
 use Rattle.gc_words.specs.declared.value.Value.TheVariants.{Nil}
 use Rattle.territory.specs.Territories.{TerritoryView}
-use Rattle.sweep_share.specs.Shares.{AreFinished}
+use Rattle.sweep_share.specs.Shares.{AreFinished, IsShare}
 use Rattle.sweep_share.specs.Registers.{AreRegistersOf, RegistersView, held_in, item_at, register_in}
 use Rattle.sweeper.specs.Sweepers.{SweeperView}
 use Rattle.sweep_rounds.specs.Turns.{sweeper_at}
@@ -58,6 +58,7 @@ pub record AreEndedSoFar (sweepers : List SweeperView) (owns : List (List Territ
   pub count : length owns ≡ n
   pub finished : (k : ℕ) (e : SweeperView) → k < n
       → AreFinished (sweeper_at sweepers e k).share.territories (own_at owns k)
+  pub shares : (k : ℕ) (e : SweeperView) → k < n → IsShare (sweeper_at sweepers e k).share
   pub registers_count : length after ≡ length before
   pub registers : (k r : ℕ) (e : SweeperView) (v : Value) → k < n → r < length before
       → register_in (sweeper_at sweepers e k).registers r ≡ Some v → slice_get after r ≡ Some v
@@ -101,9 +102,9 @@ module _ (sweepers : List SweeperView) (owns : List (List TerritoryView)) (own :
       omega (arith, first, second, low)
 
   -- with it they are one more
-  pub ended_more : AreFinished v.share.territories own
+  pub ended_more : AreFinished v.share.territories own → IsShare v.share
       → AreEndedSoFar sweepers (owns ++ own ∷ []) before new (n + 1)
-  ended_more done = record {
+  ended_more done share = record {
     count = length_push owns own ∙ ap (λ k. k + 1) so.count;
     finished = λ k e below. elim (cases_lt k n) [
       | inl low ↦
@@ -116,6 +117,13 @@ module _ (sweepers : List SweeperView) (owns : List (List TerritoryView)) (own :
           (subst (AreFinished (sweeper_at sweepers e n).share.territories)
           (sym (get_or_push owns own [] n so.count))
           (subst (λ (w : SweeperView). AreFinished w.share.territories own) (sym (next e)) done))
+    ];
+    shares = λ k e below. elim (cases_lt k n) [
+      | inl low ↦ so.shares k e low
+      | inr far ↦
+          let same : n ≡ k = omega (arith, below, far) in
+          subst (λ j. IsShare (sweeper_at sweepers e j).share) same
+          (subst (λ (w : SweeperView). IsShare w.share) (sym (next e)) share)
     ];
     registers_count = put.count ∙ so.registers_count;
     registers = λ k r e u below in_before holds. elim (cases_lt k n) [

@@ -5,7 +5,7 @@ use Rattle.std.proofs.lemmas.Iterator.Consumers.{YieldsList-turn}
 use Rattle.std.proofs.lemmas.List.{length_push, with_items_is}
 use Rattle.gc_words.specs.declared.value.Value.{Value}
 use Rattle.territory.specs.Territories.{TerritoryView}
-use Rattle.sweep_share.specs.Shares.{AreFinished}
+use Rattle.sweep_share.specs.Shares.{AreFinished, IsShare}
 use Rattle.sweep_share.specs.Registers.{AreRegistersOf}
 use Rattle.sweeper.specs.Sweepers.{SweeperView}
 use Rattle.collector.specs.Swept.{ArePut}
@@ -20,17 +20,17 @@ one_more : (sweepers yielded : List SweeperView) (owns pushed : List (List Terri
     → (length yielded < length sweepers) × (v ≡ slice_index_or sweepers (length yielded) v)
     → items ≡ v.registers.items → AreRegistersOf v.registers.number v.registers.sweepers items
     → slice ≡ now → listed ≡ items → ArePut slice new listed → after ≡ new
-    → AreFinished v.share.territories parts → own ≡ parts → pushed ≡ owns ++ own ∷ []
+    → AreFinished v.share.territories parts → IsShare v.share → own ≡ parts → pushed ≡ owns ++ own ∷ []
     → AreEndedSoFar sweepers pushed before after (length (yielded ++ v ∷ []))
 one_more sweepers yielded owns pushed parts own before now slice new after items listed v numbered so turn
-    its of was list put is done same more =
+    its of was list put is done share same more =
     let of_its : AreRegistersOf v.registers.number v.registers.sweepers v.registers.items =
     subst (AreRegistersOf v.registers.number v.registers.sweepers) its of in
     let put_its : ArePut now new v.registers.items =
     subst (ArePut now new) (list ∙ its) (subst (λ s. ArePut s new listed) was put) in
     let ended : AreEndedSoFar sweepers (owns ++ own ∷ []) before new (length yielded + 1) =
     ended_more sweepers owns own before now new (length yielded) v numbered so turn.0 turn.1 of_its put_its
-    (subst (AreFinished v.share.territories) (sym same) done) in
+    (subst (AreFinished v.share.territories) (sym same) done) share in
     subst (AreEndedSoFar sweepers pushed before after) (sym (length_push yielded v))
     (subst (λ a. AreEndedSoFar sweepers pushed before a (length yielded + 1)) (sym is)
     (subst (λ o. AreEndedSoFar sweepers o before new (length yielded + 1)) (sym more) ended))
@@ -51,4 +51,4 @@ loop-sweeper-preserved c =
     c.requires.numbers c.loop-sweeper.invariant turn c.finish-parts.ensures.registers
     c.finish-parts.ensures.numbers c.deref_mut.ensures.value c.deref.ensures.value c.put_registers.ensures
     (with_items_is c.loop-sweeper.registers c.put_registers.new.registers count)
-    c.finish-parts.ensures.territories c.new.ensures c.in_ok-push.ensures.items
+    c.finish-parts.ensures.territories c.finish-parts.ensures.share c.new.ensures c.in_ok-push.ensures.items
