@@ -18,6 +18,9 @@ use std::thread::Threads;
 use trace_text::{LineReader, Next, read_command};
 use trace_types::{Fault, Limits};
 
+#[cfg(test)]
+mod tests;
+
 /// How the lines of a source ended.
 #[derive(Drop)]
 pub(crate) enum Ending {
