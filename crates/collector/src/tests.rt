@@ -1,6 +1,6 @@
 //! What no clause says: that a heap is collected where there is memory, and how the work is shared then.
 
-ghost use Rattle.std.specs.Prelude.{◌≡◌, ◌+◌, ◌*◌, ◌<◌, ◌≤◌, OnOk};
+ghost use Rattle.std.specs.Prelude.{◌≡◌, ◌<◌, ◌≤◌, IfOk, length};
 
 use crate::{Report, collect};
 use gc_io::OpenGate;
@@ -36,7 +36,7 @@ fn collect_with<R: Threads + Sync, M: Ledger, L: Ledger>(
     requires steps_name { steps.name ≡ L.name }
     requires steps_parts { steps.parts ≡ L.parts }
     requires steps_some { 0 < steps.parts }
-    ensures { heap.new.last ≡ heap.old.last }
+    ensures { IfOk result (λ r. length r.forwarded ≡ sweepers) }
 {
     let mut mail = Steps::<M>::new(mail);
     let mut steps = Steps::<L>::new(steps);
@@ -51,8 +51,7 @@ fn copied<R: Threads + Sync>(
     args: CollectArgs,
     sweepers: u32,
 ) -> Result<Result<Vec<u64>, HeapError>, Fail>
-    requires sweepers { (1 ≤ sweepers) × (sweepers ≤ 64) }
-    ensures { heap.new.last ≡ heap.old.last }
+    requires { (1 ≤ sweepers) × (sweepers ≤ 64) }
 {
     let mail = Blank::new(1);
     let steps = Blank::new(1);
@@ -73,7 +72,6 @@ fn make_list(heap: &mut Heap, count: u32, threads: u8) -> Result<(), HeapError>
     requires empty { heap.old.last ≡ 0 }
     requires few { count ≤ 1000000 }
     requires threads { (1 ≤ threads) × (threads ≤ 64) }
-    ensures { heap.new.last ≤ count }
 {
     let (Some(newest), Some(oldest)) = (Register::new(0), Register::new(1)) else {
         return Ok(());
@@ -89,9 +87,7 @@ fn make_list(heap: &mut Heap, count: u32, threads: u8) -> Result<(), HeapError>
 }
 
 /// Lets the oldest pair of the list refer to the newest.
-fn close_ring(heap: &mut Heap) -> Result<(), HeapError>
-    ensures { heap.new.last ≡ heap.old.last }
-{
+fn close_ring(heap: &mut Heap) -> Result<(), HeapError> {
     let (Some(newest), Some(oldest)) = (Register::new(0), Register::new(1)) else {
         return Ok(());
     };

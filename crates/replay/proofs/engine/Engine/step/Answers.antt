@@ -104,13 +104,28 @@ pub returns-in-Gen-clause-cards : goal.returns-in-Gen-clause-cards
 returns-in-Gen-clause-cards g c = λ sound. prints_cards _ _ _ _ _ c.print_generation.result c.print_generation.ensures (rw (← c.self.view_is) at sound)
 
 pub invariant_of-self-in-Print : goal.invariant_of-self-in-Print
-invariant_of-self-in-Print g c = prints_last _ _ _ _ _ c.args.line c.print_graph.result c.print_graph.ensures (omega (arith, c.self.invariant, c.requires.newer, ap (λ (e : EngineView). e.newest) c.self.view_is))
+invariant_of-self-in-Print g c = (
+  prints_last _ _ _ _ _ c.args.line c.print_graph.result c.print_graph.ensures
+      (omega (arith, c.self.invariant.0, c.requires.newer, ap (λ (e : EngineView). e.newest) c.self.view_is)),
+  c.self.invariant.1,
+  c.self.invariant.2,
+)
 
 pub invariant_of-self-in-Census : goal.invariant_of-self-in-Census
-invariant_of-self-in-Census g c = prints_last _ _ _ _ _ c.args.line c.print_census.result c.print_census.ensures (omega (arith, c.self.invariant, c.requires.newer, ap (λ (e : EngineView). e.newest) c.self.view_is))
+invariant_of-self-in-Census g c = (
+  prints_last _ _ _ _ _ c.args.line c.print_census.result c.print_census.ensures
+      (omega (arith, c.self.invariant.0, c.requires.newer, ap (λ (e : EngineView). e.newest) c.self.view_is)),
+  c.self.invariant.1,
+  c.self.invariant.2,
+)
 
 pub invariant_of-self-in-Gen : goal.invariant_of-self-in-Gen
-invariant_of-self-in-Gen g c = prints_last _ _ _ _ _ c.args.line c.print_generation.result c.print_generation.ensures (omega (arith, c.self.invariant, c.requires.newer, ap (λ (e : EngineView). e.newest) c.self.view_is))
+invariant_of-self-in-Gen g c = (
+  prints_last _ _ _ _ _ c.args.line c.print_generation.result c.print_generation.ensures
+      (omega (arith, c.self.invariant.0, c.requires.newer, ap (λ (e : EngineView). e.newest) c.self.view_is)),
+  c.self.invariant.1,
+  c.self.invariant.2,
+)
 
 pub returns-in-Collect-clause-kept : goal.returns-in-Collect-clause-kept
 returns-in-Collect-clause-kept g c = λ other. absurd (other c.in-Collect.args c.in-Collect.is)
