@@ -16,8 +16,8 @@ collected_stands h s targets n hands territories registers stands plain is_world
     starts_left h s targets n hands (starts_in territories) registers stands plain is_world ended (kept s targets.cg)
     reached in (
       left_stands h s (arguments_of targets) territories registers stands plain allowed settled left
-      (registers_left h s targets n hands (starts_in territories) registers stands plain is_world ended
-      (kept s targets.cg) reached count),
+          (registers_left h s targets n hands (starts_in territories) registers stands plain is_world ended
+          (kept s targets.cg) reached count),
       plain_left h territories registers (kept s targets.cg) (arguments_of targets) plain left,
     )
 

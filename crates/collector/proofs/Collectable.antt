@@ -1,5 +1,5 @@
 -- The territories and registers of a valid heap can be collected with allowed arguments.
-use Rattle.std.proofs.Common.{◌≡◌, ◌⊎◌, ℕ, ◌+◌, ◌<◌, ◌≤◌, ◌&&◌, ◌||◌, ◌==◌, nat_le, nat_lt, Bool, true, false, cond, List, get_or, length, slice_get, IsTrue, IsSome, Option, None, Some, refl, sym, ◌∙◌, ap, subst, arith, inl, inr}
+use Rattle.std.proofs.Common.{◌≡◌, ◌⊎◌, ℕ, ◌+◌, ◌<◌, ◌≤◌, ◌&&◌, ◌||◌, ◌==◌, nat_le, nat_lt, Bool, true, false, cond, get_or, length, slice_get, IsTrue, IsSome, Option, None, Some, refl, sym, ◌∙◌, ap, subst, arith, inl, inr}
 use Rattle.std.proofs.lemmas.Bool.{and_parts, eqb-true, false≢true, leb-true, ltb-true, or_cases}
 use Rattle.std.proofs.lemmas.List.{length-map}
 use Rattle.std.proofs.lemmas.List.Elements.{All-contains}
@@ -15,7 +15,7 @@ use Rattle.trace_types.specs.WellFormed.{IsObject, is_generation}
 use Rattle.trace_types.specs.Collections.{Arguments, are_allowed}
 use Rattle.segment.specs.Segments.{Start}
 use Rattle.territory.specs.declared.territory.Targets.{Targets}
-use Rattle.territory.specs.Territories.{Refers, has_values as may_refer}
+use Rattle.territory.specs.Territories.{has_values as may_refer}
 use Rattle.sweep_model.specs.World.{is_strong, object_in, strong_value}
 use Rattle.sweep_model.proofs.Names.{strong_word, word_in}
 use Rattle.heap_store.specs.Starts.{IsThere, IsThereOption, IsWordThere, Starts, has_values, object_of, read}

@@ -1,5 +1,5 @@
 -- What the call of a collection does, from what the calls that it makes do.
-use Rattle.std.proofs.Common.{◌≡◌, ◌≢◌, ℕ, ◌<◌, ◌≤◌, ◌||◌, Bool, true, false, List, length, slice_index, is_some, IsTrue, Ok, Err, refl, sym, ◌∙◌, ap, subst, inl, inr}
+use Rattle.std.proofs.Common.{◌≡◌, ◌≢◌, ℕ, ◌<◌, ◌≤◌, true, false, List, length, slice_index, is_some, IsTrue, Ok, Err, refl, sym, ◌∙◌, ap, subst, inl, inr}
 use Rattle.std.specs.FinMap.{find}
 use Rattle.std.specs.Ordering.{nat_cmp}
 use Rattle.std.proofs.lemmas.Bool.{false≢true, or_cases}
@@ -25,8 +25,8 @@ use Rattle.collect_model.specs.Worlds.{arguments_of}
 use Rattle.collect_model.specs.Counts.{copied_by}
 use Rattle.collect_model.proofs.Collected.{collected_stands, copies_are_counted}
 use Rattle.collector.specs.Swept.{IsSwept}
-use Rattle.collector.specs.Collected.{AreCounted, KeepsFixed, arguments_in, counted_in, is_fixed}
-use Rattle.collector.proofs.Performing.{copied_counted, counted_both, counted_heap, counted_stands, counted_state, performs, performs_failed, performs_fault, plain_failed, with_collects}
+use Rattle.collector.specs.Collected.{AreCounted, KeepsFixed, arguments_in, counted_in}
+use Rattle.collector.proofs.Performing.{copied_counted, counted_both, counted_stands, counted_state, performs, performs_failed, performs_fault, plain_failed, with_collects}
 
 -- ---- the parts
 

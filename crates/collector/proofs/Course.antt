@@ -1,5 +1,5 @@
 -- From begun territories to what is left of a collection: what the calls in between ask for and tell.
-use Rattle.std.proofs.Common.{◌≡◌, ℕ, ◌<◌, ◌≤◌, List, [], ◌∷◌, length, slice_index, slice_index_or, refl, sym, ◌∙◌, ap, subst, arith}
+use Rattle.std.proofs.Common.{◌≡◌, ℕ, ◌<◌, ◌≤◌, List, [], ◌∷◌, length, slice_index, slice_index_or, refl, sym, ◌∙◌, subst, arith}
 use Rattle.gc_words.specs.declared.value.Value.{Value}
 use Rattle.territory.specs.declared.territory.Targets.{Targets}
 use Rattle.territory.specs.Territories.{HaveAddresses, TerritoryView, no_territory}
@@ -19,7 +19,7 @@ use Rattle.collector.proofs.Beginning.{dealt_share, is_beginning}
 use Rattle.collector.proofs.Running.{AllBegun, HaveRun, ended_of, number_after, sweepers_after, whole_of}
 use Rattle.collector.proofs.Returned.{AreReturned}
 use Rattle.collector.proofs.EndedRegisters.{registers_within}
-use Rattle.collector.proofs.Gathered.{HaveAllAddresses, addresses_after, gathered_whole}
+use Rattle.collector.proofs.Gathered.{addresses_after, gathered_whole}
 use Rattle.collector.proofs.Swept.{is_swept, returned_of}
 
 -- what a call that begins a collection has: the territories before and after, and the number of sweepers
@@ -53,127 +53,127 @@ shares_dealt {old} {new} {registers} {targets} {n} {m} {owns} is same dealt k in
 module _ {old new : List TerritoryView} {registers : List Value} {targets : Targets} {n : ℕ} {d : DirectoryView}
     {owns : List (List TerritoryView)} {made : List SweeperView} (is : IsBegun old new registers targets n)
     (directed : IsDirected new targets n d) (dealt : AreDealt n new owns) (are_made : AreMade d owns registers made)
-    where
-  abbrev world : World
-  world = world_in old registers targets n
+  where
+    abbrev world : World
+    world = world_in old registers targets n
 
-  pub made_count : length made ≡ n
-  made_count = are_made.count ∙ dealt.count
+    pub made_count : length made ≡ n
+    made_count = are_made.count ∙ dealt.count
 
-  is_world : IsWorld world
-  is_world = begun_world old new registers targets n is.ready is.begun is.some is.most
+    is_world : IsWorld world
+    is_world = begun_world old new registers targets n is.ready is.begun is.some is.most
 
-  -- they stand at the beginning of the heap's world
-  all_begun : (e : SweeperView) → AllBegun world n d (sweeper_at made e)
-  all_begun e =
-      let within : (k : ℕ) → k < n → k < length made = λ k less. subst (λ c. k < c) (sym made_count) less in
-      record {
-        is_world = is_world;
-        listed = begun_listed old new registers targets n is.ready is.begun is.some is.most;
-        count = refl;
-        begun = λ k less.
-            let m = are_made.each k e (within k less) in
-            m.begun world is_world
-            (is_beginning old new registers targets n is.ready is.begun is.some is.most d directed.its_targets
-            directed.count directed.segments k (own_at owns k) m.own_registers less
-            (subst (λ c. IsDealtTo c k new (own_at owns k)) (sym directed.count) (dealt.each k less)) m.dealt);
-        numbers = λ k less. (are_made.each k e (within k less)).number;
-        directory = λ k less. (are_made.each k e (within k less)).directory;
-      }
+    -- they stand at the beginning of the heap's world
+    all_begun : (e : SweeperView) → AllBegun world n d (sweeper_at made e)
+    all_begun e =
+        let within : (k : ℕ) → k < n → k < length made = λ k less. subst (λ c. k < c) (sym made_count) less in
+        record {
+          is_world = is_world;
+          listed = begun_listed old new registers targets n is.ready is.begun is.some is.most;
+          count = refl;
+          begun = λ k less.
+              let m = are_made.each k e (within k less) in
+              m.begun world is_world
+              (is_beginning old new registers targets n is.ready is.begun is.some is.most d directed.its_targets
+              directed.count directed.segments k (own_at owns k) m.own_registers less
+              (subst (λ c. IsDealtTo c k new (own_at owns k)) (sym directed.count) (dealt.each k less)) m.dealt);
+          numbers = λ k less. (are_made.each k e (within k less)).number;
+          directory = λ k less. (are_made.each k e (within k less)).directory;
+        }
 
-  -- so they may run
-  pub made_whole : (e : SweeperView) → Whole (length made) d (sweeper_at made e)
-  made_whole e = subst (λ c. Whole c d (sweeper_at made e)) (sym made_count) (whole_of (all_begun e))
+    -- so they may run
+    pub made_whole : (e : SweeperView) → Whole (length made) d (sweeper_at made e)
+    made_whole e = subst (λ c. Whole c d (sweeper_at made e)) (sym made_count) (whole_of (all_begun e))
 
-  -- ---- after the run
+    -- ---- after the run
 
-  module _ (after : List SweeperView) (same : length after ≡ length made)
-      (ends : (e : SweeperView) → Ends (length made) (sweeper_at made e) (sweeper_at after e)) where
-    after_count : length after ≡ n
-    after_count = same ∙ made_count
+    module _ (after : List SweeperView) (same : length after ≡ length made)
+        (ends : (e : SweeperView) → Ends (length made) (sweeper_at made e) (sweeper_at after e)) where
+      after_count : length after ≡ n
+      after_count = same ∙ made_count
 
-    ends_all : (e : SweeperView) → Ends n (sweeper_at made e) (sweeper_at after e)
-    ends_all e = subst (λ c. Ends c (sweeper_at made e) (sweeper_at after e)) made_count (ends e)
+      ends_all : (e : SweeperView) → Ends n (sweeper_at made e) (sweeper_at after e)
+      ends_all e = subst (λ c. Ends c (sweeper_at made e) (sweeper_at after e)) made_count (ends e)
 
-    run : (e : SweeperView) → HaveRun world (sweeper_at made e) (sweeper_at after e)
-    run e = ended_of (all_begun e) (ends_all e)
+      run : (e : SweeperView) → HaveRun world (sweeper_at made e) (sweeper_at after e)
+      run e = ended_of (all_begun e) (ends_all e)
 
-    less_of : (k : ℕ) → k < length after → k < n
-    less_of k inside = subst (λ c. k < c) after_count inside
+      less_of : (k : ℕ) → k < length after → k < n
+      less_of k inside = subst (λ c. k < c) after_count inside
 
-    -- there is one
-    pub first_after : SweeperView
-    first_after = first_of after (omega (arith, after_count, is.some))
+      -- there is one
+      pub first_after : SweeperView
+      first_after = first_of after (omega (arith, after_count, is.some))
 
-    -- the registers of each sweeper are those of its number
-    pub registers_number : (k : ℕ) (e : SweeperView) → k < length after
-        → (sweeper_at after e k).registers.number ≡ k
-    registers_number k e inside =
-        ((run e).ended.led.ready k (less_of k inside)).joined.registers
-        ∙ number_after (run e) k (less_of k inside)
+      -- the registers of each sweeper are those of its number
+      pub registers_number : (k : ℕ) (e : SweeperView) → k < length after
+          → (sweeper_at after e k).registers.number ≡ k
+      registers_number k e inside =
+          ((run e).ended.led.ready k (less_of k inside)).joined.registers
+          ∙ number_after (run e) k (less_of k inside)
 
-    pub registers_sweepers : (k : ℕ) (e : SweeperView) → k < length after
-        → (sweeper_at after e k).registers.sweepers ≡ length after
-    registers_sweepers k e inside =
-        ((run e).ended.led.ready k (less_of k inside)).joined.register_count
-        ∙ (sweepers_after (run e) k (less_of k inside) ∙ sym after_count)
+      pub registers_sweepers : (k : ℕ) (e : SweeperView) → k < length after
+          → (sweeper_at after e k).registers.sweepers ≡ length after
+      registers_sweepers k e inside =
+          ((run e).ended.led.ready k (less_of k inside)).joined.register_count
+          ∙ (sweepers_after (run e) k (less_of k inside) ∙ sym after_count)
 
-    pub registers_inside : (k i : ℕ) (e : SweeperView) → k < length after
-        → i < length (sweeper_at after e k).registers.items
-        → AreRegistersOf (sweeper_at after e k).registers.number (sweeper_at after e k).registers.sweepers
-        (sweeper_at after e k).registers.items
-        → (item_at (sweeper_at after e k).registers.items i).0 < length registers
-    registers_inside k i e inside within numbers =
-        let v : SweeperView = sweeper_at after e k in
-        registers_within (run e) registers (λ r. refl) k i (less_of k inside) within
-        (subst (λ c. AreRegistersOf k c v.registers.items) (registers_sweepers k e inside ∙ after_count)
-        (subst (λ j. AreRegistersOf j v.registers.sweepers v.registers.items) (registers_number k e inside) numbers))
-
-    -- ---- ended
-
-    module _ (e : SweeperView) {ends_of : List (List TerritoryView)} {now : List Value}
-        (ended : AreEnded after ends_of registers now) where
-      ended_count : length ends_of ≡ n
-      ended_count = ended.count ∙ after_count
-
-      shares : (k : ℕ) → k < n → AreShareOf k n (sweeper_at after e k).share.territories
-      shares k less =
+      pub registers_inside : (k i : ℕ) (e : SweeperView) → k < length after
+          → i < length (sweeper_at after e k).registers.items
+          → AreRegistersOf (sweeper_at after e k).registers.number (sweeper_at after e k).registers.sweepers
+          (sweeper_at after e k).registers.items
+          → (item_at (sweeper_at after e k).registers.items i).0 < length registers
+      registers_inside k i e inside within numbers =
           let v : SweeperView = sweeper_at after e k in
-          subst (λ j. AreShareOf j n v.share.territories) (number_after (run e) k less)
-          (subst (λ c. AreShareOf v.share.number c v.share.territories) (sweepers_after (run e) k less)
-          (ended.shares k e (subst (λ c. k < c) (sym after_count) less)))
+          registers_within (run e) registers (λ r. refl) k i (less_of k inside) within
+          (subst (λ c. AreRegistersOf k c v.registers.items) (registers_sweepers k e inside ∙ after_count)
+          (subst (λ j. AreRegistersOf j v.registers.sweepers v.registers.items) (registers_number k e inside) numbers))
 
-      back : AreReturned n (sweeper_at after e) ends_of
-      back = returned_of n e after_count ended is.some shares
+      -- ---- ended
 
-      threads : (k i : ℕ) → k < n → i < length (sweeper_at after e k).share.territories
-          → (slice_index_or (sweeper_at after e k).share.territories i (no_territory 0)).thread < 64
-      threads k i less inside =
-          let finished = (back.finished k less).each i inside in
-          subst (λ t. t < 64) finished.thread finished.thread_in
+      module _ (e : SweeperView) {ends_of : List (List TerritoryView)} {now : List Value}
+          (ended : AreEnded after ends_of registers now) where
+        ended_count : length ends_of ≡ n
+        ended_count = ended.count ∙ after_count
 
-      pub ended_some : 1 ≤ length ends_of
-      ended_some = subst (λ c. 1 ≤ c) (sym ended_count) is.some
+        shares : (k : ℕ) → k < n → AreShareOf k n (sweeper_at after e k).share.territories
+        shares k less =
+            let v : SweeperView = sweeper_at after e k in
+            subst (λ j. AreShareOf j n v.share.territories) (number_after (run e) k less)
+            (subst (λ c. AreShareOf v.share.number c v.share.territories) (sweepers_after (run e) k less)
+            (ended.shares k e (subst (λ c. k < c) (sym after_count) less)))
 
-      pub ended_whole : AreWhole (length ends_of) ends_of
-      ended_whole = subst (λ c. AreWhole c ends_of) (sym ended_count) (gathered_whole back threads)
+        back : AreReturned n (sweeper_at after e) ends_of
+        back = returned_of n e after_count ended is.some shares
 
-      addresses : (k i : ℕ) → k < n → i < length (own_at ends_of k)
-          → HaveAddresses (slice_index_or (own_at ends_of k) i (no_territory 0))
-      addresses k i less inside =
-          let finished = back.finished k less in
-          (finished.each i (subst (λ c. i < c) finished.count inside)).addresses
+        threads : (k i : ℕ) → k < n → i < length (sweeper_at after e k).share.territories
+            → (slice_index_or (sweeper_at after e k).share.territories i (no_territory 0)).thread < 64
+        threads k i less inside =
+            let finished = (back.finished k less).each i inside in
+            subst (λ t. t < 64) finished.thread finished.thread_in
 
-      -- and gathered
-      pub all_swept : {gathered : List TerritoryView} {counts : List ℕ}
-          → AreGathered (length ends_of) ends_of gathered → length counts ≡ length after
-          → ((k : ℕ) (e : SweeperView) → k < length after
-          → slice_index counts k ≡ length (sweeper_at after e k).places.own)
-          → IsSwept old registers targets n gathered now counts
-      all_swept {gathered} {counts} are_gathered count copied =
-          let here : AreGathered n ends_of gathered =
-          subst (λ c. AreGathered c ends_of gathered) ended_count are_gathered in
-          is_swept counts e (all_begun e)
-          (begun_ordered old new registers targets n is.ready is.begun is.some is.most) (ends_all e) after_count
-          ended back here (addresses_after back here addresses)
-          (count ∙ after_count, λ k less. copied k e (subst (λ c. k < c) (sym after_count) less))
+        pub ended_some : 1 ≤ length ends_of
+        ended_some = subst (λ c. 1 ≤ c) (sym ended_count) is.some
+
+        pub ended_whole : AreWhole (length ends_of) ends_of
+        ended_whole = subst (λ c. AreWhole c ends_of) (sym ended_count) (gathered_whole back threads)
+
+        addresses : (k i : ℕ) → k < n → i < length (own_at ends_of k)
+            → HaveAddresses (slice_index_or (own_at ends_of k) i (no_territory 0))
+        addresses k i less inside =
+            let finished = back.finished k less in
+            (finished.each i (subst (λ c. i < c) finished.count inside)).addresses
+
+        -- and gathered
+        pub all_swept : {gathered : List TerritoryView} {counts : List ℕ}
+            → AreGathered (length ends_of) ends_of gathered → length counts ≡ length after
+            → ((k : ℕ) (e : SweeperView) → k < length after
+            → slice_index counts k ≡ length (sweeper_at after e k).places.own)
+            → IsSwept old registers targets n gathered now counts
+        all_swept {gathered} {counts} are_gathered count copied =
+            let here : AreGathered n ends_of gathered =
+            subst (λ c. AreGathered c ends_of gathered) ended_count are_gathered in
+            is_swept counts e (all_begun e)
+            (begun_ordered old new registers targets n is.ready is.begun is.some is.most) (ends_all e) after_count
+            ended back here (addresses_after back here addresses)
+            (count ∙ after_count, λ k less. copied k e (subst (λ c. k < c) (sym after_count) less))

@@ -1,6 +1,6 @@
 -- A collection is the step of its command.
-use Rattle.std.proofs.Common.{◌≡◌, ◌≢◌, ℕ, ◌+◌, ◌<◌, Bool, true, false, cond, List, length, slice_index, IsTrue, Ok, Err, refl, sym, ◌∙◌, ap, subst, arith, inl, inr}
-use Rattle.std.proofs.lemmas.Bool.{cases_Bool, false≢true}
+use Rattle.std.proofs.Common.{◌≡◌, ◌≢◌, ℕ, Bool, true, cond, IsTrue, Ok, Err, refl, sym, ◌∙◌, ap, subst, inl, inr}
+use Rattle.std.proofs.lemmas.Bool.{cases_Bool}
 use Rattle.trace_types.specs.declared.operand.CollectArgs.{CollectArgs}
 use Rattle.trace_types.specs.declared.operand.CollectArgs.TheVariants.{Explicit, Plain}
 use Rattle.trace_types.specs.declared.fault.Fault.{Fault}

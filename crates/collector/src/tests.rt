@@ -123,7 +123,11 @@ fn each_sweeper_copies_its_share_of_a_ring(rt: HostRuntime) -> Result<(), Fail> 
         for args in [YOUNG, CollectArgs::Plain] {
             let counts = copied(&rt, rt.alloc(), &mut heap, args, sweepers)?;
             if args == YOUNG {
-                assert_eq!(rt; counts, Ok(shares(rt.alloc(), 200, sweepers)?), "{sweepers}");
+                assert_eq!(rt;
+                    counts,
+                    Ok(shares(rt.alloc(), 200, sweepers)?),
+                    "{sweepers}"
+                );
             }
         }
     }
@@ -146,7 +150,11 @@ fn refuses_arguments_that_are_not_allowed(rt: HostRuntime) -> Result<(), Fail> {
     ] {
         let args = CollectArgs::Explicit { cg, min, max };
         let answer = copied(&rt, rt.alloc(), &mut heap, args, 2)?;
-        assert_eq!(rt; answer, Err(HeapError::Fault(Fault::BadGeneration)), "{cg} {min} {max}");
+        assert_eq!(rt;
+            answer,
+            Err(HeapError::Fault(Fault::BadGeneration)),
+            "{cg} {min} {max}"
+        );
     }
     heap.fail();
     let answer = copied(&rt, rt.alloc(), &mut heap, YOUNG, 2)?;

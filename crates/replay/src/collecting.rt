@@ -62,13 +62,5 @@ pub(crate) fn collect_heap<R: Threads + Sync, G: Gate>(
     ensures fixed { OnOk result (KeepsFixed heap.old heap.new) }
     ensures last { heap.new.last ≡ heap.old.last }
 {
-    collect_on::<_, _, Brand, Brand>(
-        rt,
-        heap,
-        args,
-        sweepers,
-        gate,
-        Blank::new(1),
-        Blank::new(1),
-    )
+    collect_on::<_, _, Brand, Brand>(rt, heap, args, sweepers, gate, Blank::new(1), Blank::new(1))
 }

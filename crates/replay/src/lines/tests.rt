@@ -105,9 +105,15 @@ fn any_number_of_sweepers_prints_the_same(rt: HostRuntime) -> Result<(), Fail> {
     let alloc = rt.alloc();
     let wanted = printed(alloc)?;
     for sweepers in [1, 2, 3, 7, 64] {
-        assert!(rt; prints(&rt, alloc, sweepers, ring(alloc)?, &wanted)?, "{sweepers}");
+        assert!(rt;
+            prints(&rt, alloc, sweepers, ring(alloc)?, &wanted)?,
+            "{sweepers}"
+        );
         let mixed = MIXED.to_vec(alloc)?;
-        assert!(rt; prints(&rt, alloc, sweepers, mixed, MIXED_PRINTED)?, "{sweepers}");
+        assert!(rt;
+            prints(&rt, alloc, sweepers, mixed, MIXED_PRINTED)?,
+            "{sweepers}"
+        );
     }
     Ok(())
 }

@@ -1,4 +1,4 @@
-use Rattle.std.proofs.Common.{sym, ◌∙◌, subst}
+use Rattle.std.proofs.Common.{sym, subst}
 use Rattle.heap_store.specs.HeapView.{HeapView}
 use Rattle.heap_store.specs.Changes.{HaveSoundCards}
 use Rattle.heap_store.specs.Parts.{seen_parts}

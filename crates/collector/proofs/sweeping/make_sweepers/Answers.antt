@@ -7,7 +7,6 @@ use Rattle.std.proofs.lemmas.Iterator.Consumers.{YieldsList-turn}
 use Rattle.gc_words.specs.declared.value.Value.{Value}
 use Rattle.territory.specs.Territories.{TerritoryView}
 use Rattle.directory.specs.Directories.{DirectoryView, sweeper_count}
-use Rattle.sweep_share.specs.Registers.{AreRegistersOf}
 use Rattle.sweep_share.specs.Shares.{AreShareOf}
 use Rattle.sweeper.specs.Sweepers.{SweeperView}
 use Rattle.sweeper.specs.Starting.{IsBeginning}

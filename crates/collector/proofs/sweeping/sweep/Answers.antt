@@ -71,9 +71,9 @@ end_all-requires-clause-numbers g c = λ k e inside.
       segments = λ a. c.in_ok-directory.ensures.segments a ∙ ap (λ ts. aside_at ts a) c.deref.ensures.value;
     } in (
       registers_number is directed c.in_ok-owns.ensures made c.run_to_idle.new.sweepers.items
-      c.in_ok-done.ensures.same c.in_ok-done.ensures.ends k e inside,
+          c.in_ok-done.ensures.same c.in_ok-done.ensures.ends k e inside,
       registers_sweepers is directed c.in_ok-owns.ensures made c.run_to_idle.new.sweepers.items
-      c.in_ok-done.ensures.same c.in_ok-done.ensures.ends k e inside,
+          c.in_ok-done.ensures.same c.in_ok-done.ensures.ends k e inside,
     )
 
 pub end_all-requires-clause-within : goal.end_all-requires-clause-within
