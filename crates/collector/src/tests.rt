@@ -161,3 +161,17 @@ fn refuses_arguments_that_are_not_allowed(rt: HostRuntime) -> Result<(), Fail> {
     assert_eq!(rt; answer, Err(HeapError::Failed));
     Ok(())
 }
+
+#[test]
+fn the_largest_vector_is_copied(rt: HostRuntime) -> Result<(), Fail> {
+    let mut heap = Heap::new(rt.alloc(), 3)?;
+    let register = Register::new(0).ok_or("no register")?;
+    assert_eq!(rt; heap.version_two(1), Ok(()));
+    assert_eq!(rt; heap.vector(2, register, 4_000_000, Operand::Nil), Ok(()));
+    for args in [YOUNG, CollectArgs::Plain] {
+        let counts = copied(&rt, rt.alloc(), &mut heap, args, 1)?;
+        let moved = if args == YOUNG { 1 } else { 0 };
+        assert_eq!(rt; counts, Ok(vec![in rt.alloc(); moved; 1]?));
+    }
+    Ok(())
+}
