@@ -1,5 +1,7 @@
 //! What several sweepers leave of a trace: the same bytes as one, whatever their number.
 
+ghost use Rattle.std.specs.Prelude.{◌≤◌};
+
 use super::{Ending, run};
 use gc_io::{MemSink, MemSource, OpenGate};
 use std::alloc::{AllocError, Global};
