@@ -2,7 +2,7 @@
 use Rattle.trace_types.specs.Kept.{kept}
 use Rattle.heap_store.specs.HeapView.{starts_in, starts_of}
 use Rattle.collect_model.specs.Worlds.{arguments_of}
-use Rattle.collect_model.specs.Left.{AreLeft}
+use Rattle.collect_model.proofs.Left.{AreLeft}
 use Rattle.collect_model.specs.Laws.{CollectedStands, CopiesAreCounted}
 use Rattle.collect_model.proofs.KeptIsLeast.{kept_is_least}
 use Rattle.collect_model.proofs.Leaving.{left_stands, plain_left}

@@ -18,7 +18,7 @@ use Rattle.heap_store.specs.HeapView.{HeapView, starts_of}
 use Rattle.heap_store.specs.Plain.{IsPlain}
 use Rattle.heap_store.specs.Stands.{Stands}
 use Rattle.collect_model.specs.Worlds.{HasEnded, arguments_of, world_of}
-use Rattle.collect_model.specs.Left.{AreLeft, AreRegistersLeft, IsLeft, IsLeftOf, WasKept}
+use Rattle.collect_model.proofs.Left.{AreLeft, AreRegistersLeft, IsLeft, IsLeftOf, WasKept}
 use Rattle.collect_model.proofs.PlainKinds.{all_left}
 use Rattle.collect_model.proofs.Fields.{again}
 use Rattle.collect_model.proofs.Landing.{Lands, landed, lands_once, lands_reached, reached_lands, same_thread}

@@ -13,7 +13,7 @@ use Rattle.heap_store.specs.HeapView.{HeapView, starts_in, starts_of}
 use Rattle.heap_store.specs.Plain.{IsPlain, is_plain}
 use Rattle.heap_store.specs.Stands.{AreSettled, Stands}
 use Rattle.heap_store.proofs.Plain.{plain_no_cell}
-use Rattle.collect_model.specs.Left.{AreLeft, AreRegistersLeft}
+use Rattle.collect_model.proofs.Left.{AreLeft, AreRegistersLeft}
 use Rattle.collect_model.proofs.Graph.{nothing_registered}
 use Rattle.collect_model.proofs.LeavingGraph.{closed_left, graph_left_stands}
 use Rattle.collect_model.proofs.LeavingRoots.{locks_left, notes_left, registry_left}

@@ -13,7 +13,7 @@ use Rattle.heap_store.specs.Starts.{Starts, is_cell, object_of, IsClosed}
 use Rattle.heap_store.specs.Graphs.{GraphStands, HasPlace, IsInGraph}
 use Rattle.heap_store.proofs.Kept.{empty_queue}
 use Rattle.heap_store.proofs.Plain.{plain_kind}
-use Rattle.collect_model.specs.Left.{AreLeft, IsLeftOf}
+use Rattle.collect_model.proofs.Left.{AreLeft, IsLeftOf}
 use Rattle.collect_model.proofs.PlainKinds.{ArePlain}
 use Rattle.collect_model.proofs.Graph.{plain_found}
 

@@ -16,7 +16,7 @@ use Rattle.heap_store.specs.Registries.{level_count}
 use Rattle.heap_store.specs.Roots.{IsNoteThere, IsRegistrationThere, LocksStand, NotesStand, RegistryStands, by_line, level_of, read_note, read_registration}
 use Rattle.heap_store.proofs.Kept.{at_index}
 use Rattle.heap_store.proofs.Plain.{plain_kind}
-use Rattle.collect_model.specs.Left.{AreLeft}
+use Rattle.collect_model.proofs.Left.{AreLeft}
 use Rattle.collect_model.proofs.PlainKinds.{ArePlain}
 
 -- ---- locks

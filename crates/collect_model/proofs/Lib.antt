@@ -11,6 +11,7 @@ pub mod KeptIsLeast
 pub mod Landing
 pub mod Rereading
 pub mod Fields
+pub mod Left
 pub mod Ending
 pub mod LeavingGraph
 pub mod LeavingRoots

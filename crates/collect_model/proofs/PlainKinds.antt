@@ -16,7 +16,7 @@ abbrev pub ArePlain : Starts → Type 0
 ArePlain f = (p : ℕ) (x : Start) → f p ≡ Some x → is_plain x.kind ≡ true
 
 -- what holds of pairs, boxes, vectors and byte objects holds of each plain kind
-by_kind : (P : Kind → Type 0) → P kind.Pair → P kind.Boxed → P kind.Vector → P kind.Bytes
+pub by_kind : (P : Kind → Type 0) → P kind.Pair → P kind.Boxed → P kind.Vector → P kind.Bytes
     → (k : Kind) → is_plain k ≡ true → P k
 by_kind P pair box vector bytes kind.Pair is = pair
 by_kind P pair box vector bytes kind.Boxed is = box

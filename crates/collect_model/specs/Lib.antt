@@ -1,4 +1,3 @@
 pub mod Worlds
-pub mod Left
 pub mod Counts
 pub mod Laws

@@ -8,7 +8,6 @@ use Rattle.gc_words.specs.declared.value.Value.{Value}
 use Rattle.gc_words.specs.declared.value.Value.TheVariants as word
 use Rattle.gc_words.specs.Word.{value_of}
 use Rattle.trace_types.specs.declared.kind.Kind.{Kind}
-use Rattle.trace_types.specs.declared.kind.Kind.TheVariants as kind
 use Rattle.trace_types.specs.States.{static_generation}
 use Rattle.trace_types.specs.Values.{Object}
 use Rattle.trace_types.specs.WellFormed.{IsObject, is_generation}
@@ -26,6 +25,7 @@ use Rattle.heap_store.proofs.Kept.{object_some}
 use Rattle.heap_store.proofs.Plain.{plain_no_cell}
 use Rattle.collect_model.specs.Worlds.{arguments_of}
 use Rattle.collect_model.proofs.Members.{each_at}
+use Rattle.collect_model.proofs.PlainKinds.{by_kind}
 use Rattle.collect_model.proofs.References.{place_is}
 use Rattle.collect_model.proofs.Graph.{found_contains}
 use Rattle.collect_model.proofs.Rereading.{word_there}
@@ -105,31 +105,13 @@ allowed_ordered version oldest a few allowed =
 
 -- a kind of strong fields has values
 strong_values : (k : Kind) (i : ℕ) → is_plain k ≡ true → is_strong k i ≡ true → has_values k ≡ true
-strong_values kind.Pair i plain strong = refl
-strong_values kind.Boxed i plain strong = refl
-strong_values kind.Vector i plain strong = refl
-strong_values kind.Bytes i plain strong = absurd (false≢true strong)
-strong_values kind.Weak i plain strong = absurd (false≢true plain)
-strong_values kind.Eph i plain strong = absurd (false≢true plain)
-strong_values kind.ImmVector i plain strong = absurd (false≢true plain)
-strong_values kind.ImmBytes i plain strong = absurd (false≢true plain)
-strong_values kind.Guard i plain strong = absurd (false≢true plain)
-strong_values kind.OrderedGuard i plain strong = absurd (false≢true plain)
-strong_values kind.Cell i plain strong = absurd (false≢true plain)
+strong_values k i = by_kind (λ k. is_strong k i ≡ true → has_values k ≡ true) (λ _. refl) (λ _. refl) (λ _. refl)
+    (λ strong. absurd (false≢true strong)) k
 
 -- so has one whose words may refer to something
 refers_values : (k : Kind) → is_plain k ≡ true → may_refer k ≡ true → has_values k ≡ true
-refers_values kind.Pair plain may = refl
-refers_values kind.Boxed plain may = refl
-refers_values kind.Vector plain may = refl
-refers_values kind.Bytes plain may = absurd (false≢true may)
-refers_values kind.Weak plain may = absurd (false≢true plain)
-refers_values kind.Eph plain may = absurd (false≢true plain)
-refers_values kind.ImmVector plain may = absurd (false≢true plain)
-refers_values kind.ImmBytes plain may = absurd (false≢true plain)
-refers_values kind.Guard plain may = absurd (false≢true plain)
-refers_values kind.OrderedGuard plain may = absurd (false≢true plain)
-refers_values kind.Cell plain may = absurd (false≢true plain)
+refers_values = by_kind (λ k. may_refer k ≡ true → has_values k ≡ true) (λ _. refl) (λ _. refl) (λ _. refl)
+    (λ may. absurd (false≢true may))
 
 module _ (h : HeapView) (valid : IsValid h) where
   abbrev f : Starts

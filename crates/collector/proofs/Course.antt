@@ -1,5 +1,5 @@
 -- From begun territories to what is left of a collection: what the calls in between ask for and tell.
-use Rattle.std.proofs.Common.{◌≡◌, ℕ, ◌<◌, ◌≤◌, List, [], ◌∷◌, length, slice_index, slice_index_or, refl, sym, ◌∙◌, subst, arith}
+use Rattle.std.proofs.Common.{◌≡◌, ℕ, ◌<◌, ◌≤◌, List, [], ◌∷◌, length, slice_index, slice_index_or, refl, sym, ap, ◌∙◌, subst, arith}
 use Rattle.gc_words.specs.declared.value.Value.{Value}
 use Rattle.territory.specs.declared.territory.Targets.{Targets}
 use Rattle.territory.specs.Territories.{HaveAddresses, TerritoryView, no_territory}
@@ -34,6 +34,25 @@ pub record IsDirected (new : List TerritoryView) (targets : Targets) (n : ℕ) (
   pub its_targets : d.targets ≡ targets
   pub count : sweeper_count d ≡ n
   pub segments : (a : ℕ) → shown (from_at d a) ≡ aside_at new a
+
+-- ---- the same from what the calls tell
+
+pub begun_is : {old new : List TerritoryView} {registers : List Value} {targets : Targets} {n : ℕ}
+    → AreCollectable old registers targets → HaveBegun old new targets → (1 ≤ n) × (n ≤ 64)
+    → IsBegun old new registers targets n
+begun_is ready begun sweepers = record { ready = ready; begun = begun; some = sweepers.0; most = sweepers.1 }
+
+pub directed_is : {read new : List TerritoryView} {targets : Targets} {n : ℕ} {d : DirectoryView} → read ≡ new
+    → d.targets ≡ targets → sweeper_count d ≡ n → ((a : ℕ) → shown (from_at d a) ≡ aside_at read a)
+    → IsDirected new targets n d
+directed_is same its_targets count segments =
+    record { its_targets = its_targets; count = count; segments = λ a. segments a ∙ ap (λ ts. aside_at ts a) same }
+
+pub made_for : {d : DirectoryView} {owns : List (List TerritoryView)} {read registers : List Value}
+    {made : List SweeperView} → read ≡ registers → AreMade d owns read made → AreMade d owns registers made
+made_for {d} {owns} {read} {registers} {made} same = subst (λ rs. AreMade d owns rs made) same
+
+-- ----
 
 -- the first of a list
 first_of : (l : List SweeperView) → 0 < length l → SweeperView

@@ -8,7 +8,7 @@ use Rattle.sweep_rounds.specs.Turns.{sweeper_at}
 use Rattle.collector.specs.Begun.{AreMade}
 use Rattle.collector.specs.Swept.{IsSwept}
 use Rattle.collector.proofs.Beginning.{ready_targets, ready_threads}
-use Rattle.collector.proofs.Course.{IsBegun, IsDirected, all_swept, ended_whole, first_after, made_whole, registers_inside, registers_number, registers_sweepers, shares_dealt}
+use Rattle.collector.proofs.Course.{all_swept, begun_is, directed_is, ended_whole, first_after, made_for, made_whole, registers_inside, registers_number, registers_sweepers, shares_dealt}
 use Rattle.collector.proofs.sweeping.sweep.Goals as goal
 
 pub new-requires-clause-threads : goal.new-requires-clause-threads
@@ -25,51 +25,23 @@ new-requires-clause-begun g c =
 
 pub make_sweepers-requires-clause-shares : goal.make_sweepers-requires-clause-shares
 make_sweepers-requires-clause-shares g c =
-    let is : IsBegun c.args.territories.items c.begin_all.new.territories.items c.args.registers.items c.args.targets
-    c.args.sweepers = record {
-      ready = c.requires.collectable;
-      begun = c.begin_all.ensures;
-      some = c.requires.sweepers.0;
-      most = c.requires.sweepers.1;
-    } in
+    let is = begun_is c.requires.collectable c.begin_all.ensures c.requires.sweepers in
     shares_dealt is c.in_ok-directory.ensures.sweepers c.in_ok-owns.ensures
 
 pub run_to_idle-requires-clause-whole : goal.run_to_idle-requires-clause-whole
 run_to_idle-requires-clause-whole g c = λ κs h.
-    let d : DirectoryView = c.in_ok-directory.directory in
-    let new : List TerritoryView = c.begin_all.new.territories.items in
-    let made : AreMade d c.in_ok-owns.owns.items c.args.registers.items c.in_ok-all.all.items =
-    subst (λ rs. AreMade d c.in_ok-owns.owns.items rs c.in_ok-all.all.items) c.deref-2.ensures.value c.in_ok-all.ensures in
-    let is : IsBegun c.args.territories.items new c.args.registers.items c.args.targets c.args.sweepers = record {
-      ready = c.requires.collectable;
-      begun = c.begin_all.ensures;
-      some = c.requires.sweepers.0;
-      most = c.requires.sweepers.1;
-    } in
-    let directed : IsDirected new c.args.targets c.args.sweepers d = record {
-      its_targets = c.in_ok-directory.ensures.targets;
-      count = c.in_ok-directory.ensures.sweepers;
-      segments = λ a. c.in_ok-directory.ensures.segments a ∙ ap (λ ts. aside_at ts a) c.deref.ensures.value;
-    } in
+    let made = made_for c.deref-2.ensures.value c.in_ok-all.ensures in
+    let is = begun_is c.requires.collectable c.begin_all.ensures c.requires.sweepers in
+    let told = c.in_ok-directory.ensures in
+    let directed = directed_is c.deref.ensures.value told.targets told.sweepers told.segments in
     made_whole is directed c.in_ok-owns.ensures made
 
 pub end_all-requires-clause-numbers : goal.end_all-requires-clause-numbers
 end_all-requires-clause-numbers g c = λ k e inside.
-    let d : DirectoryView = c.in_ok-directory.directory in
-    let new : List TerritoryView = c.begin_all.new.territories.items in
-    let made : AreMade d c.in_ok-owns.owns.items c.args.registers.items c.in_ok-all.all.items =
-    subst (λ rs. AreMade d c.in_ok-owns.owns.items rs c.in_ok-all.all.items) c.deref-2.ensures.value c.in_ok-all.ensures in
-    let is : IsBegun c.args.territories.items new c.args.registers.items c.args.targets c.args.sweepers = record {
-      ready = c.requires.collectable;
-      begun = c.begin_all.ensures;
-      some = c.requires.sweepers.0;
-      most = c.requires.sweepers.1;
-    } in
-    let directed : IsDirected new c.args.targets c.args.sweepers d = record {
-      its_targets = c.in_ok-directory.ensures.targets;
-      count = c.in_ok-directory.ensures.sweepers;
-      segments = λ a. c.in_ok-directory.ensures.segments a ∙ ap (λ ts. aside_at ts a) c.deref.ensures.value;
-    } in (
+    let made = made_for c.deref-2.ensures.value c.in_ok-all.ensures in
+    let is = begun_is c.requires.collectable c.begin_all.ensures c.requires.sweepers in
+    let told = c.in_ok-directory.ensures in
+    let directed = directed_is c.deref.ensures.value told.targets told.sweepers told.segments in (
       registers_number is directed c.in_ok-owns.ensures made c.run_to_idle.new.sweepers.items
           c.in_ok-done.ensures.same c.in_ok-done.ensures.ends k e inside,
       registers_sweepers is directed c.in_ok-owns.ensures made c.run_to_idle.new.sweepers.items
@@ -78,42 +50,20 @@ end_all-requires-clause-numbers g c = λ k e inside.
 
 pub end_all-requires-clause-within : goal.end_all-requires-clause-within
 end_all-requires-clause-within g c = λ k i e inside within numbers.
-    let d : DirectoryView = c.in_ok-directory.directory in
-    let new : List TerritoryView = c.begin_all.new.territories.items in
-    let made : AreMade d c.in_ok-owns.owns.items c.args.registers.items c.in_ok-all.all.items =
-    subst (λ rs. AreMade d c.in_ok-owns.owns.items rs c.in_ok-all.all.items) c.deref-2.ensures.value c.in_ok-all.ensures in
-    let is : IsBegun c.args.territories.items new c.args.registers.items c.args.targets c.args.sweepers = record {
-      ready = c.requires.collectable;
-      begun = c.begin_all.ensures;
-      some = c.requires.sweepers.0;
-      most = c.requires.sweepers.1;
-    } in
-    let directed : IsDirected new c.args.targets c.args.sweepers d = record {
-      its_targets = c.in_ok-directory.ensures.targets;
-      count = c.in_ok-directory.ensures.sweepers;
-      segments = λ a. c.in_ok-directory.ensures.segments a ∙ ap (λ ts. aside_at ts a) c.deref.ensures.value;
-    } in
+    let made = made_for c.deref-2.ensures.value c.in_ok-all.ensures in
+    let is = begun_is c.requires.collectable c.begin_all.ensures c.requires.sweepers in
+    let told = c.in_ok-directory.ensures in
+    let directed = directed_is c.deref.ensures.value told.targets told.sweepers told.segments in
     registers_inside is directed c.in_ok-owns.ensures made c.run_to_idle.new.sweepers.items
     c.in_ok-done.ensures.same c.in_ok-done.ensures.ends k i e inside within numbers
 
 pub gather_territories-requires-clause-whole : goal.gather_territories-requires-clause-whole
 gather_territories-requires-clause-whole g c =
-    let d : DirectoryView = c.in_ok-directory.directory in
-    let new : List TerritoryView = c.begin_all.new.territories.items in
     let after : List SweeperView = c.run_to_idle.new.sweepers.items in
-    let made : AreMade d c.in_ok-owns.owns.items c.args.registers.items c.in_ok-all.all.items =
-    subst (λ rs. AreMade d c.in_ok-owns.owns.items rs c.in_ok-all.all.items) c.deref-2.ensures.value c.in_ok-all.ensures in
-    let is : IsBegun c.args.territories.items new c.args.registers.items c.args.targets c.args.sweepers = record {
-      ready = c.requires.collectable;
-      begun = c.begin_all.ensures;
-      some = c.requires.sweepers.0;
-      most = c.requires.sweepers.1;
-    } in
-    let directed : IsDirected new c.args.targets c.args.sweepers d = record {
-      its_targets = c.in_ok-directory.ensures.targets;
-      count = c.in_ok-directory.ensures.sweepers;
-      segments = λ a. c.in_ok-directory.ensures.segments a ∙ ap (λ ts. aside_at ts a) c.deref.ensures.value;
-    } in
+    let made = made_for c.deref-2.ensures.value c.in_ok-all.ensures in
+    let is = begun_is c.requires.collectable c.begin_all.ensures c.requires.sweepers in
+    let told = c.in_ok-directory.ensures in
+    let directed = directed_is c.deref.ensures.value told.targets told.sweepers told.segments in
     let e : SweeperView =
     first_after is directed c.in_ok-owns.ensures made after c.in_ok-done.ensures.same c.in_ok-done.ensures.ends in
     ended_whole is directed c.in_ok-owns.ensures made after c.in_ok-done.ensures.same c.in_ok-done.ensures.ends e
@@ -121,22 +71,11 @@ gather_territories-requires-clause-whole g c =
 
 pub returns-clause-swept : goal.returns-clause-swept
 returns-clause-swept g c =
-    let d : DirectoryView = c.in_ok-directory.directory in
-    let new : List TerritoryView = c.begin_all.new.territories.items in
     let after : List SweeperView = c.run_to_idle.new.sweepers.items in
-    let made : AreMade d c.in_ok-owns.owns.items c.args.registers.items c.in_ok-all.all.items =
-    subst (λ rs. AreMade d c.in_ok-owns.owns.items rs c.in_ok-all.all.items) c.deref-2.ensures.value c.in_ok-all.ensures in
-    let is : IsBegun c.args.territories.items new c.args.registers.items c.args.targets c.args.sweepers = record {
-      ready = c.requires.collectable;
-      begun = c.begin_all.ensures;
-      some = c.requires.sweepers.0;
-      most = c.requires.sweepers.1;
-    } in
-    let directed : IsDirected new c.args.targets c.args.sweepers d = record {
-      its_targets = c.in_ok-directory.ensures.targets;
-      count = c.in_ok-directory.ensures.sweepers;
-      segments = λ a. c.in_ok-directory.ensures.segments a ∙ ap (λ ts. aside_at ts a) c.deref.ensures.value;
-    } in
+    let made = made_for c.deref-2.ensures.value c.in_ok-all.ensures in
+    let is = begun_is c.requires.collectable c.begin_all.ensures c.requires.sweepers in
+    let told = c.in_ok-directory.ensures in
+    let directed = directed_is c.deref.ensures.value told.targets told.sweepers told.segments in
     let e : SweeperView =
     first_after is directed c.in_ok-owns.ensures made after c.in_ok-done.ensures.same c.in_ok-done.ensures.ends in
     let counts : List ℕ = c.in_ok-copied.field-0.items in
