@@ -1,11 +1,8 @@
 -- From call to call of a collection.
 use Rattle.std.proofs.Common.{◌≡◌, ℕ, ◌<◌, List, length, slice_index, sym, ◌∙◌, ap, subst}
-use Rattle.territory.specs.Territories.{TerritoryView}
-use Rattle.directory.specs.Directories.{AreOfThreads, DirectoryView, HaveBegun as HaveTargets}
-use Rattle.directory.specs.Tables.{aside_at}
+use Rattle.directory.specs.Directories.{AreOfThreads, HaveBegun as HaveTargets}
 use Rattle.sweeper.specs.Sweepers.{SweeperView}
 use Rattle.sweep_rounds.specs.Turns.{sweeper_at}
-use Rattle.collector.specs.Begun.{AreMade}
 use Rattle.collector.specs.Swept.{IsSwept}
 use Rattle.collector.proofs.Beginning.{ready_targets, ready_threads}
 use Rattle.collector.proofs.Course.{all_swept, begun_is, directed_is, ended_whole, first_after, made_for, made_whole, registers_inside, registers_number, registers_sweepers, shares_dealt}
