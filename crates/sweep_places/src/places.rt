@@ -3,7 +3,7 @@
 ghost use Rattle.std.specs.Prelude.{◌≡◌, ◌<◌, [], ◌∷◌, ◌++◌, Contains, IfOk, MatchOption, None, OnErr, OnOk, length, replicate};
 ghost use Rattle.directory.specs.Directories.{sweeper_count};
 ghost use Rattle.sweep_model.specs.Hands.{IsAbsent, forwarded_at};
-ghost use Rattle.sweep_places.specs.Places.{IsOwnStart};
+ghost use Rattle.sweep_places.specs.Places.{IsOwnStart, not_forwarded};
 
 use directory::Directory;
 use gc_words::Address;
@@ -11,14 +11,18 @@ use std::alloc::{AllocError, Global};
 use std::marker::Model;
 use std::snapshot::Snapshot;
 
-/// The pairs of an object and its place, and a table of places by word.
+/// What the table has for an object that was not forwarded: no pair has this number.
+const NOT_FORWARDED: u32 = u32::MAX;
+
+/// The pairs of an object and its place, and a table of their numbers by word. The numbers take 4 bytes for each possible
+/// start, and a place would take 16.
 #[derive(Drop)]
 pub struct Places {
     number: u32,
     directory: Snapshot<Directory>,
     /// The first word of the sweeper's range.
     first: usize,
-    table: Vec<Option<Address>>,
+    table: Vec<u32>,
     forwards: Vec<(Address, Address)>,
 }
 
@@ -32,11 +36,11 @@ impl Model for Places {
     ghost invariant = { λ p. ArePlaces p.directory.value p.number p.first p.table.items p.forwards.items };
 }
 
-/// A table without places.
-fn empty_table(alloc: Global, count: usize) -> Result<Vec<Option<Address>>, AllocError>
-    ensures { IfOk result (λ v. v.items ≡ replicate count None) }
+/// A table of objects that were not forwarded.
+fn empty_table(alloc: Global, count: usize) -> Result<Vec<u32>, AllocError>
+    ensures { IfOk result (λ v. v.items ≡ replicate count not_forwarded) }
 {
-    vec![in alloc; None; count]
+    vec![in alloc; NOT_FORWARDED; count]
 }
 
 impl Places {
@@ -77,11 +81,15 @@ impl Places {
         requires own { IsOwnStart self.now.directory self.now.number at }
         ensures { MatchOption result (IsAbsent self.now.own at) (λ place. Contains self.now.own (at, place)) }
     {
-        self.table[directory.word_of(at) - self.first]
+        let n = self.table[directory.word_of(at) - self.first];
+        if n == NOT_FORWARDED {
+            return None;
+        }
+        Some(self.forwards[n as usize].1)
     }
 
-    /// Notes the place of an object of its own, which was not forwarded before. Err where memory is refused, which
-    /// changes nothing.
+    /// Notes the place of an object of its own, which was not forwarded before. Err where memory is refused, or would be
+    /// asked for more than 2^32 - 1 pairs, which changes nothing.
     pub fn note(
         &mut self,
         at: Address,
@@ -95,8 +103,12 @@ impl Places {
         ensures err { OnErr result (self.new ≡ self.old) }
     {
         let entry = directory.word_of(at) - self.first;
+        let n = self.forwards.len();
+        if n >= NOT_FORWARDED as usize {
+            return Err(AllocError);
+        }
         self.forwards.push((at, place))?;
-        self.table[entry] = Some(place);
+        self.table[entry] = n as u32;
         Ok(())
     }
 }
