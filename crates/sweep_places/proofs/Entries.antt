@@ -95,7 +95,7 @@ module _ (d : DirectoryView) (k first : ℕ) (table : List ℕ) (own : List (ℕ
           let last : n ≡ length own = sym e ∙ put in (
             omega (arith, last, more own (a, p)),
             ap (λ m. word_in d (forwarded_at (own ++ (a, p) ∷ []) m).0) last
-            ∙ ap (λ f. word_in d f.0) (new_pair own (a, p)) ∙ omega (arith, same, (first_below a start).0),
+                ∙ ap (λ f. word_in d f.0) (new_pair own (a, p)) ∙ omega (arith, same, (first_below a start).0),
           )
       | inr ne ↦
           let was = places.shown w n (sym (get_or-set_other table entry w (length own) not_forwarded ne) ∙ e) some in

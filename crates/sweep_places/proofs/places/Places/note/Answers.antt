@@ -15,8 +15,8 @@ invariant_of-self-2 c =
     let start = subst (λ (p : PlacesView). IsOwnStart p.directory p.number c.args.at) (sym c.self.view_is) c.requires.own in
     let absent = subst (λ (p : PlacesView). IsAbsent p.own c.args.at) (sym c.self.view_is) c.requires.absent in
     let is : ArePlaces c.self.inside.directory.value c.self.inside.number c.self.inside.first
-        (slice_set c.self.inside.table.items (word_in c.self.inside.directory.value c.args.at - c.self.inside.first)
-        (length c.self.inside.forwards.items)) (c.self.inside.forwards.items ++ (c.args.at, c.args.place) ∷ []) =
+    (slice_set c.self.inside.table.items (word_in c.self.inside.directory.value c.args.at - c.self.inside.first)
+    (length c.self.inside.forwards.items)) (c.self.inside.forwards.items ++ (c.args.at, c.args.place) ∷ []) =
     noted c.self.inside.directory.value c.self.inside.number c.self.inside.first c.self.inside.table.items c.self.inside.forwards.items
     c.self.invariant (subst TellsApart same c.word_of.ensures.apart) (subst HasOwnWords same c.word_of.ensures.own) c.args.at
     start c.args.place absent (omega (arith, count, c.if-n.false)) in

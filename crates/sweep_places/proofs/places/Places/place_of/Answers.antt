@@ -1,4 +1,4 @@
-use Rattle.std.proofs.Common.{◌≡◌, ℕ, ◌<◌, arith, Contains, length, sym, ap, subst, ◌∙◌}
+use Rattle.std.proofs.Common.{◌≡◌, arith, Contains, sym, subst}
 use Rattle.std.proofs.lemmas.List.{get_or_read}
 use Rattle.sweep_model.specs.Hands.{forwarded_at}
 use Rattle.sweep_places.specs.Places.{PlacesView}
