@@ -1,8 +1,8 @@
 -- An object that was heard of is copied: it is forwarded.
-use Rattle.std.proofs.Common.{◌≡◌, ◌≢◌, ℕ, ◌+◌, ◌%◌, ◌<◌, false, not, ◌&&◌, ◌==◌, List, [], ◌∷◌, ◌++◌, map, drop, length, cond, Contains, IsTrue, refl, sym, ap, subst, ◌∙◌, inl, inr, arith, Option, None, Some, is_some}
+use Rattle.std.proofs.Common.{◌≡◌, ◌≢◌, ℕ, ◌%◌, ◌<◌, false, not, ◌&&◌, ◌==◌, List, [], ◌∷◌, ◌++◌, map, length, cond, Contains, IsTrue, refl, sym, ap, subst, ◌∙◌, inl, inr, arith, Option, None, Some, is_some}
 use Rattle.std.proofs.lemmas.Bool.{and_from, cases_Bool, cases_eq, eq-eqb, eqb-true, false_from_ne_true}
-use Rattle.std.proofs.lemmas.List.{drop-append-le, get_or_append_left, get_or_default, length_push, map_push}
-use Rattle.std.proofs.lemmas.List.Elements.{Contains-append_left, Contains-get_or}
+use Rattle.std.proofs.lemmas.List.{get_or_default, map_push}
+use Rattle.std.proofs.lemmas.List.Elements.{Contains-append_left, Contains-get_or, Contains-push_cases}
 use Rattle.std.proofs.lemmas.Option.{none-some}
 use Rattle.std.specs.List.{list_any}
 use Rattle.gc_words.specs.declared.value.Value.TheVariants as value
@@ -26,6 +26,7 @@ use Rattle.sweep_model.specs.Holding.{Holds, count_of, entry_of, in_standing, ma
 use Rattle.sweep_model.specs.Moves.{CopyGoes}
 use Rattle.sweep_model.proofs.Asking.{fixed_there}
 use Rattle.sweep_model.proofs.Going.{goes_one, same_itself}
+use Rattle.sweep_model.proofs.Memory.{index_some}
 
 -- an object x of its own that was heard of is copied to the place q
 module _ (world : World) (w : Setting) (h h' : Hand) (todo : List Standing) (x q : ℕ) (b : Back) (p : Part)
@@ -103,10 +104,8 @@ module _ (world : World) (w : Setting) (h h' : Hand) (todo : List Standing) (x q
   unswept_after : p.unswept ++ x ∷ [] ≡ unswept_of h'
   unswept_after =
       ap (λ l. l ++ x ∷ []) holds.unswept
-      ∙ sym (map_push object_of (drop h.swept h.own) (x, q))
-      ∙ ap (map object_of) (sym (drop-append-le h.swept h.own ((x, q) ∷ []) tied.swept_in))
-      ∙ ap (λ n. map object_of (drop n (h.own ++ (x, q) ∷ []))) (sym copied.swept)
-      ∙ ap (λ l. map object_of (drop h'.swept l)) (sym copied.own)
+      ∙ sym (map_push object_of h.unswept (x, q))
+      ∙ ap (map object_of) (sym copied.unswept)
 
   mail_same : mail_of world h' (in_standing world (message.Forward x b) ∷ todo)
       ≡ mail_of world h (in_standing world (message.Forward x b) ∷ todo)
@@ -137,15 +136,21 @@ module _ (world : World) (w : Setting) (h h' : Hand) (todo : List Standing) (x q
   still_there (back.Wait y) t f = f
   still_there back.Nothing t f = f
 
+  -- what is swept is another object, which stays so
   still_swept : (y : ℕ) → IsSwept h y → IsSwept h' y
-  still_swept y s =
-      let more : length h'.own ≡ length h.own + 1 = ap length copied.own ∙ length_push h.own (x, q) in (
-        s.0,
-        omega (arith, s.1, copied.swept),
-        omega (arith, s.2, more),
-        ap (λ l. (forwarded_at l s.0).0) copied.own
-            ∙ ap object_of (get_or_append_left h.own ((x, q) ∷ []) (0, 0) s.0 s.2) ∙ s.3,
-      )
+  still_swept y s = (
+    (
+      s.0.0,
+      subst (λ l. Contains l (y, s.0.0)) (sym copied.own)
+          (Contains-append_left h.own ((x, q) ∷ []) (y, s.0.0) s.0.1),
+    ),
+    λ r c. elim (Contains-push_cases h.unswept (x, q) (y, r) (subst (λ l. Contains l (y, r)) copied.unswept c)) [
+      | inl e ↦ s.1 r e
+      | inr e ↦
+          let i = index_some h.own (y, s.0.0) s.0.1 in
+          absurd (copied.absent i.0 i.1 (ap object_of i.2 ∙ sym (ap object_of e)))
+    ],
+  )
 
   pub holds_copied : Holds world w h' (in_standing world (message.Forward x b) ∷ todo)
       (forwarded_here h.number p x q)

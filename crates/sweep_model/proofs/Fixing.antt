@@ -1,5 +1,5 @@
 -- A slot that was told its place is fixed.
-use Rattle.std.proofs.Common.{◌≡◌, ◌≢◌, ℕ, false, List, [], ◌∷◌, ◌++◌, map, drop, length, cond, Contains, IsTrue, refl, sym, ap, subst, ◌∙◌, inl, inr, arith, Some}
+use Rattle.std.proofs.Common.{◌≡◌, ◌≢◌, ℕ, false, List, [], ◌∷◌, ◌++◌, map, cond, Contains, IsTrue, refl, sym, ap, subst, ◌∙◌, inl, inr, arith, Some}
 use Rattle.std.proofs.lemmas.Bool.{and_from, both_ways, eq-eqb, false_from_ne_true}
 use Rattle.std.proofs.lemmas.Option.{same_Some}
 use Rattle.gc_mail.specs.declared.message.Message.TheVariants as message
@@ -19,7 +19,7 @@ use Rattle.owned_core.proofs.Making.{makes_nothing}
 use Rattle.owned_core.proofs.SameSlots.{and_l, and_r, same_slot_itself}
 use Rattle.sweep_model.specs.World.{World, asks}
 use Rattle.sweep_model.specs.Settings.{slot_at}
-use Rattle.sweep_model.specs.Hands.{Hand, forwarded_at, object_of, unswept_of}
+use Rattle.sweep_model.specs.Hands.{Hand, object_of, unswept_of}
 use Rattle.sweep_model.specs.Holding.{Holds, count_of, entry_of, in_standing, mail_of, or_zero, out_standing}
 use Rattle.sweep_model.specs.Moves.{AnswerFixes, IsWritten, ToldFixes}
 use Rattle.sweep_model.proofs.Answering.{answer_own_goes}
@@ -58,9 +58,7 @@ module _ (world : World) (w : Setting) (h h' : Hand) (todo : List Standing) (x q
       ∙ ap (λ l. todo ++ (map (in_standing world) h.inbox ++ map (out_standing world) l)) written.outbox
 
   unswept_same : unswept_of h' ≡ unswept_of h
-  unswept_same =
-      ap (λ n. map object_of (drop n h'.own)) written.swept
-      ∙ ap (λ l. map object_of (drop h.swept l)) written.own
+  unswept_same = ap (map object_of) written.unswept
 
   -- another slot wants its place elsewhere
   elsewhere : (u : Standing) → same_slot u.slot slot ≡ false → (c : Back) → asks world c ≡ Some u.slot.target
@@ -97,12 +95,9 @@ module _ (world : World) (w : Setting) (h h' : Hand) (todo : List Standing) (x q
       let o : count_of a (mail_of world h' todo) ≡ count_of a (mail_of world h todo) =
       ap (count_of a) mail_same in
       omega (arith, holds.once a, o))
-      (λ y s.
-      let few : length h'.own ≡ length h.own = ap length written.own in (
-        s.0,
-        omega (arith, s.1, written.swept),
-        omega (arith, s.2, few),
-        ap (λ l. (forwarded_at l s.0).0) written.own ∙ s.3,
+      (λ y s. (
+        (s.0.0, subst (λ l. Contains l (y, s.0.0)) (sym written.own) s.0.1),
+        λ r c. s.1 r (subst (λ l. Contains l (y, r)) written.unswept c),
       ))
 
 -- a slot that was told its place is fixed, and makes no new ones

@@ -1,6 +1,5 @@
 -- Where no mail is left and all is swept, the state is idle.
 use Rattle.std.proofs.Common.{◌≡◌, ℕ, ◌<◌, [], map, Contains, IsTrue, refl, sym, ◌∙◌, ap, subst, inl, inr}
-use Rattle.std.proofs.lemmas.List.{drop_all}
 use Rattle.owned_core.specs.declared.slot.Standing.{Standing}
 use Rattle.owned_core.specs.Invariants.{IsIdle, rests}
 use Rattle.owned_core.specs.Owned.{State}
@@ -37,7 +36,7 @@ module _ (world : World) (w : Setting) (hands : ℕ → Hand) (s : State)
   done : (k : ℕ) → k < world.sweepers → IsDone (stand.parts k)
   done k b = record {
     all_swept = (stand.holds k b).unswept
-        ∙ ap (map object_of) (drop_all (hands k).swept (hands k).own (quiet k b).swept);
+        ∙ ap (map object_of) (quiet k b).swept;
     all_rest = λ t c.
         subst (λ g. IsTrue (rests (alone (stand.parts k)) t.slot g)) (sym (all_fixed k b t c).stage) refl;
   }

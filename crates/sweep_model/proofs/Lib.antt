@@ -7,7 +7,7 @@ pub mod MemoryPuts
 pub mod Worlds
 pub mod Starting
 pub mod Counting
-pub mod Firsts
+pub mod Lasts
 pub mod Beginning
 pub mod Going
 pub mod Asking

@@ -1,9 +1,7 @@
 -- What all sweepers have forwarded and swept, as the state of the core says it. The object of a slot that
 -- stands is older or swept, and so it has its place.
-use Rattle.std.proofs.Common.{◌≡◌, ℕ, ◌+◌, ◌-◌, ◌<◌, ◌≤◌, ◌==◌, ◌&&◌, not, false, List, map, drop, length, get_or, Contains, IsTrue, refl, sym, ◌∙◌, ap, subst, arith, inl, inr, ◌⊎◌, Some}
-use Rattle.std.proofs.lemmas.Bool.{both_ways, cases_lt, eq-eqb, eqb-true, not-true, or_cases}
-use Rattle.std.proofs.lemmas.List.{get_or-drop, length-drop}
-use Rattle.std.proofs.lemmas.List.Elements.{Contains-get_or}
+use Rattle.std.proofs.Common.{◌≡◌, ℕ, ◌<◌, ◌==◌, ◌&&◌, not, false, List, map, Contains, IsTrue, refl, sym, ◌∙◌, ap, subst, inl, inr, ◌⊎◌, Some}
+use Rattle.std.proofs.lemmas.Bool.{both_ways, eq-eqb, eqb-true, not-true, or_cases}
 use Rattle.gc_mail.specs.declared.message.Slot.{Slot as Back}
 use Rattle.gc_mail.specs.declared.message.Slot.TheVariants as back
 use Rattle.gc_mail.specs.Recipients.{owner}
@@ -21,39 +19,19 @@ use Rattle.owned_core.proofs.Parts.{owners}
 use Rattle.owned_core.proofs.SameSlots.{and_l, and_r}
 use Rattle.sweep_model.specs.World.{World, IsWorld, asks, is_collected}
 use Rattle.sweep_model.specs.Settings.{IsSettingOf, member_of, slot_at}
-use Rattle.sweep_model.specs.Hands.{Hand, IsAt, IsSwept, forwarded_at, object_of, unswept_of}
+use Rattle.sweep_model.specs.Hands.{Hand, IsAt, IsSwept, object_of, unswept_of}
 use Rattle.sweep_model.specs.Holding.{entry_of}
 use Rattle.sweep_model.specs.Wholes.{Stand}
 use Rattle.sweep_model.proofs.Ages.{older_stays}
 use Rattle.sweep_model.proofs.Apt.{due_from, owner_in}
-use Rattle.sweep_model.proofs.Memory.{index_some}
 use Rattle.sweep_model.proofs.Names.{named_once}
-
--- ---- pairs of a list
-
--- what is forwarded later is among those that are left
-drop_later : (n m : ℕ) (xs : List (ℕ × ℕ)) → n ≤ m → m < length xs → Contains (drop n xs) (forwarded_at xs m)
-drop_later n m xs h inside =
-    let l : length (drop n xs) ≡ length xs - n = length-drop n xs in
-    let k : n + (m - n) ≡ m = omega (arith, h) in
-    subst (Contains (drop n xs)) (get_or-drop n xs (m - n) (0, 0) ∙ ap (λ i. get_or xs i (0, 0)) k)
-    (Contains-get_or (drop n xs) (m - n) (0, 0) (omega (arith, l, h, inside)))
 
 listed_has : (xs : List ℕ) (x : ℕ) → Contains xs x → IsTrue (has xs x)
 listed_has xs x c = some_any (λ y. y == x) xs x c (eq-eqb x x refl)
 
--- what is not swept is among the unswept
-pub unswept_has : (h : Hand) (x p : ℕ) → (n : ℕ) → n < length h.own → forwarded_at h.own n ≡ (x, p)
-    → h.swept ≤ n → IsTrue (has (unswept_of h) x)
-unswept_has h x p n inside is past = listed_has (unswept_of h) x
-    (subst (Contains (unswept_of h)) (ap object_of is)
-    (some_map object_of (drop h.swept h.own) (forwarded_at h.own n) (drop_later h.swept n h.own past inside)))
-
--- what is swept was forwarded
-pub swept_at : (h : Hand) (x : ℕ) → IsSwept h x → (p : ℕ) × Contains h.own (x, p)
-swept_at h x s =
-    let f : ℕ × ℕ = forwarded_at h.own s.0 in
-    (f.1, subst (λ z. Contains h.own (z, f.1)) s.3 (Contains-get_or h.own s.0 (0, 0) s.2))
+-- what is unswept is in the list of the core
+pub unswept_has : (h : Hand) (x p : ℕ) → Contains h.unswept (x, p) → IsTrue (has (unswept_of h) x)
+unswept_has h x p c = listed_has (unswept_of h) x (some_map object_of h.unswept (x, p) c)
 
 -- ---- the state and the sweepers
 
@@ -110,20 +88,16 @@ module _ (world : World) (w : Setting) (hands : ℕ → Hand) (s : State) (setti
     owner_swept x h =
         let k : ℕ = owner world.sweepers x in
         let b : k < world.sweepers = owner_in world.sweepers x good.some in
-        let pair = owner_has x (and_l _ _ h) in
-        let i = index_some (hands k).own (x, pair.0) pair.1 in
-        elim (cases_lt i.0 (hands k).swept) [
-          | inl before ↦ (i.0, before, i.1, ap object_of i.2)
-          | inr past ↦
-              let in_hand : IsTrue (has (unswept_of (hands k)) x) =
-              unswept_has (hands k) x pair.0 i.0 i.1 i.2 past in
+        let pair = owner_has x (and_l _ _ h) in (
+          pair,
+          λ p c.
               let in_state : IsTrue (has s.unswept x) =
               (stand.are_parts k b).unswept x (setting.owner x)
-              ∙ (ap (λ l. has l x) (stand.holds k b).unswept ∙ in_hand) in
+              ∙ (ap (λ l. has l x) (stand.holds k b).unswept ∙ unswept_has (hands k) x p c) in
               let none : has s.unswept x ≡ false =
               not-true (has s.unswept x) (and_r (in_list s x) (not (has s.unswept x)) h) in
-              absurd (both_ways (has s.unswept x) none in_state)
-        ]
+              absurd (both_ways (has s.unswept x) none in_state),
+        )
 
     -- ---- slots that stand
 
@@ -155,5 +129,5 @@ module _ (world : World) (w : Setting) (hands : ℕ → Hand) (s : State) (setti
         → (p : ℕ) × IsAt world (hands (owner world.sweepers x)).own x p
     member_placed t c x i u wants is = elim (member_swept t c x i u wants is) [
       | inl stays ↦ (x, inl (stays, refl))
-      | inr swept ↦ let r = swept_at (hands (owner world.sweepers x)) x swept in (r.0, inr r.1)
+      | inr swept ↦ (swept.0.0, inr swept.0.1)
     ]

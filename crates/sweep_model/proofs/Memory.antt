@@ -1,13 +1,15 @@
 -- What a sweeper's memory has: its places apart, and the parts of `Tied` that do not change.
-use Rattle.std.proofs.Common.{◌≡◌, ℕ, suc, ◌<◌, List, [], ◌∷◌, length, Contains, Some, refl, sym, ap, subst, ◌∙◌, inl, inr, arith}
+use Rattle.std.proofs.Common.{◌≡◌, ℕ, suc, ◌+◌, ◌<◌, List, [], ◌∷◌, ◌++◌, length, Contains, Some, refl, sym, ap, subst, ◌∙◌, inl, inr, arith}
 use Rattle.std.proofs.lemmas.Bool.{both_ways, cases_Bool}
+use Rattle.std.proofs.lemmas.List.{get_or_append_left, length_push}
+use Rattle.std.proofs.lemmas.List.Elements.{Contains-append_left}
 use Rattle.std.proofs.lemmas.Option.{none-some}
 use Rattle.segment.specs.Segments.{Start}
 use Rattle.gc_mail.specs.declared.message.Message.{Message}
 use Rattle.gc_mail.specs.Recipients.{owner}
 use Rattle.owned_core.proofs.Lists.{contains_cases, contains_none}
 use Rattle.sweep_model.specs.World.{World, is_collected}
-use Rattle.sweep_model.specs.Hands.{Hand, IsAt, IsKeptAt, Tied, forwarded_at, object_of, with_swept}
+use Rattle.sweep_model.specs.Hands.{Hand, IsAt, IsKeptAt, Tied, forwarded_at, object_of, with_unswept}
 
 -- ---- places apart
 
@@ -107,23 +109,34 @@ mail_keeps_tied world h inbox outbox tied =
       fresh = tied.fresh;
       objects_once = tied.objects_once;
       places_once = tied.places_once;
-      swept_in = tied.swept_in;
+      unswept_in = tied.unswept_in;
+      unswept_once = tied.unswept_once;
       only = tied.only;
       registers = tied.registers;
     }
 
--- one object more is swept
-pub sweep_keeps_tied : (world : World) (h : Hand) → Tied world h → h.swept < length h.own
-    → Tied world (with_swept h)
-sweep_keeps_tied world h tied left = record {
+-- one object fewer is unswept
+pub sweep_keeps_tied : (world : World) (h : Hand) (rest : List (ℕ × ℕ)) (x p : ℕ) → Tied world h
+    → h.unswept ≡ rest ++ (x, p) ∷ [] → Tied world (with_unswept h rest)
+sweep_keeps_tied world h rest x p tied is = record {
   frozen = tied.frozen;
-  older = λ x s was mine e. kept_again world h (with_swept h) x x refl (tied.older x s was mine e);
-  copied = λ x p c. kept_again world h (with_swept h) x p refl (tied.copied x p c);
+  older = λ y s was mine e. kept_again world h (with_unswept h rest) y y refl (tied.older y s was mine e);
+  copied = λ y q c. kept_again world h (with_unswept h rest) y q refl (tied.copied y q c);
   mine = tied.mine;
   fresh = tied.fresh;
   objects_once = tied.objects_once;
   places_once = tied.places_once;
-  swept_in = omega (arith, left);
+  unswept_in = λ y q c. tied.unswept_in y q
+      (subst (λ l. Contains l (y, q)) (sym is) (Contains-append_left rest ((x, p) ∷ []) (y, q) c));
+  unswept_once = λ m n a b e.
+      tied.unswept_once m n (omega (arith, a, more)) (omega (arith, b, more)) (same m a ∙ e ∙ sym (same n b));
   only = tied.only;
   registers = tied.registers;
 }
+  where
+    more : length h.unswept ≡ length rest + 1
+    more = ap length is ∙ length_push rest (x, p)
+
+    same : (n : ℕ) → n < length rest → (forwarded_at h.unswept n).0 ≡ (forwarded_at rest n).0
+    same n a =
+        ap (λ l. (forwarded_at l n).0) is ∙ ap object_of (get_or_append_left rest ((x, p) ∷ []) (0, 0) n a)

@@ -10,7 +10,7 @@ use Rattle.segment.specs.Segments.{Start}
 use Rattle.gc_mail.specs.Recipients.{owner}
 use Rattle.sweep_model.specs.World.{World, goes_to, is_collected}
 use Rattle.sweep_model.specs.Hands.{Hand, IsCopiedNow, IsKeptAt, Tied, forwarded_at, object_of}
-use Rattle.sweep_model.proofs.Memory.{kept_again, place_of, still_there}
+use Rattle.sweep_model.proofs.Memory.{index_some, kept_again, place_of, still_there}
 use Rattle.sweep_model.proofs.Ages.{collected_start}
 
 -- a pair of a longer list is one of before or the new one
@@ -128,7 +128,15 @@ module _ (world : World) (h h' : Hand) (x q : ℕ) (tied : Tied world h) (young 
     ];
     objects_once = rw copy.own (push_once object_of h.own (x, q) tied.objects_once copy.absent);
     places_once = rw copy.own (push_once place_of h.own (x, q) tied.places_once new_place);
-    swept_in = omega (arith, tied.swept_in, copy.swept, ap length copy.own, length_push h.own (x, q));
+    unswept_in = λ y p c. elim (Contains-push_cases h.unswept (x, q) (y, p) (subst (λ l. Contains l (y, p)) copy.unswept c)) [
+      | inl e ↦ own_from y p (Contains-append_left h.own ((x, q) ∷ []) (y, p) (tied.unswept_in y p e))
+      | inr e ↦ own_from y p (subst (Contains (h.own ++ (x, q) ∷ [])) e (Contains-push h.own (x, q)))
+    ];
+    unswept_once = rw copy.unswept (push_once object_of h.unswept (x, q) tied.unswept_once (λ n l e.
+        let c = tied.unswept_in (forwarded_at h.unswept n).0 (forwarded_at h.unswept n).1
+        (Contains-get_or h.unswept n (0, 0) l) in
+        let i = index_some h.own (forwarded_at h.unswept n) c in
+        copy.absent i.0 i.1 (ap object_of i.2 ∙ e)));
     only = λ p s e. elim (only_there p s e) [
       | inl is ↦ (
         number (ap (owner world.sweepers) is ∙ owner_q),

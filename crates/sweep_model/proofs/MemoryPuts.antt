@@ -105,7 +105,7 @@ module _ (world : World) (h h' : Hand) (x p i t word q : ℕ) (tied : Tied world
   put_is_written = record {
     number = put.number;
     own = put.own;
-    swept = put.swept;
+    unswept = put.unswept;
     inbox = put.inbox;
     outbox = put.outbox;
     there = (
@@ -140,7 +140,8 @@ module _ (world : World) (h h' : Hand) (x p i t word q : ℕ) (tied : Tied world
     fresh = λ y r c. tied.fresh y r (own_before y r c);
     objects_once = rw put.own tied.objects_once;
     places_once = rw put.own tied.places_once;
-    swept_in = rw (put.own, put.swept) tied.swept_in;
+    unswept_in = rw (put.own, put.unswept) tied.unswept_in;
+    unswept_once = rw put.unswept tied.unswept_once;
     only = λ b v e.
         let s = stood b v e in
         let r = tied.only b s.0 s.1 in
@@ -173,7 +174,7 @@ module _ (world : World) (h h' : Hand) (r t q : ℕ) (tied : Tied world h)
   set_is_written = record {
     number = set.number;
     own = set.own;
-    swept = set.swept;
+    unswept = set.unswept;
     inbox = set.inbox;
     outbox = set.outbox;
     there = set.here;
@@ -200,7 +201,8 @@ module _ (world : World) (h h' : Hand) (r t q : ℕ) (tied : Tied world h)
     fresh = λ y p c. tied.fresh y p (pairs_before y p c);
     objects_once = rw set.own tied.objects_once;
     places_once = rw set.own tied.places_once;
-    swept_in = rw (set.own, set.swept) tied.swept_in;
+    unswept_in = rw (set.own, set.unswept) tied.unswept_in;
+    unswept_once = rw set.unswept tied.unswept_once;
     only = λ b v e.
         let u = tied.only b v (sym (now_same b) ∙ e) in
         (u.0 ∙ sym set.number, rw set.own u.1);

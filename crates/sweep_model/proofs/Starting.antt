@@ -1,5 +1,5 @@
 -- Sweepers that begin with a message for each root stand for the state in which the core begins.
-use Rattle.std.proofs.Common.{◌≡◌, ◌≢◌, ℕ, ◌<◌, [], ◌++◌, map, drop, Contains, IsTrue, Some, refl, sym, ap, subst, ◌∙◌, inl, inr}
+use Rattle.std.proofs.Common.{◌≡◌, ◌≢◌, ℕ, ◌<◌, [], ◌++◌, map, Contains, IsTrue, Some, refl, sym, ap, subst, ◌∙◌, inl, inr}
 use Rattle.std.proofs.lemmas.Bool.{and_from, false≢true, or_cases, or_left}
 use Rattle.std.proofs.lemmas.List.Elements.{Contains-append_cases, Contains-append_left, Contains-append_right}
 use Rattle.std.proofs.lemmas.Option.{none-some}
@@ -195,8 +195,7 @@ module _ (world : World) (w : Setting) (setting : IsSettingOf world w) where
       → Holds world w h [] (begun_part world h)
   begun_holds h is begins apart = record {
     own = ap (map (entry_of h.number)) (sym begins.own);
-    unswept = ap (map object_of) (sym begins.own)
-        ∙ ap (λ n. map object_of (drop n h.own)) (sym begins.swept);
+    unswept = ap (map object_of) (sym begins.unswept);
     mail = λ t c. c;
     here = λ t c. inl c;
     once = begins.once;

@@ -1,9 +1,9 @@
--- The first unswept object is swept: its fields that ask become slots.
-use Rattle.std.proofs.Common.{◌≡◌, ◌≢◌, ℕ, suc, ◌+◌, ◌-◌, ◌<◌, ◌≤◌, true, false, not, ◌||◌, ◌&&◌, ◌==◌, List, [], ◌∷◌, map, filter, drop, length, Contains, IsTrue, refl, sym, ap, subst, ◌∙◌, inl, inr, arith, Some, add-one, length-drop}
-use Rattle.std.proofs.Math.Seq.{drop-cons}
+-- The last unswept object is swept: its fields that ask become slots.
+use Rattle.std.proofs.Common.{◌≡◌, ◌≢◌, ℕ, ◌+◌, ◌<◌, ◌≤◌, true, false, not, ◌||◌, ◌&&◌, ◌==◌, List, [], ◌∷◌, ◌++◌, map, filter, length, Contains, IsTrue, refl, sym, ap, subst, ◌∙◌, inl, inr, arith, Some}
+use Rattle.std.proofs.Math.Seq.{get_or-append_seam}
 use Rattle.std.proofs.lemmas.Bool.{and_from, both_ways, cases_eq, cases_lt, eq-eqb, false_from_ne_true, ne_eqb, or_right}
-use Rattle.std.proofs.lemmas.List.Elements.{Contains-append_left, Contains-append_right, Contains-append_cases, Contains-get_or}
-use Rattle.std.proofs.lemmas.List.{get_or-drop, get_or_default}
+use Rattle.std.proofs.lemmas.List.Elements.{Contains-append_left, Contains-append_right, Contains-append_cases, Contains-push}
+use Rattle.std.proofs.lemmas.List.{get_or_append_left, length_push, map_push}
 use Rattle.std.proofs.lemmas.Option.{none-some, same_Some}
 use Rattle.gc_mail.specs.declared.message.Slot.{Slot as Back}
 use Rattle.gc_mail.specs.declared.message.Slot.TheVariants as back
@@ -25,28 +25,28 @@ use Rattle.owned_core.proofs.Parts.{has_filter, true_and}
 use Rattle.owned_core.proofs.SameSlots.{same_slot_name}
 use Rattle.sweep_model.specs.World.{World, IsWorld, asks, is_collected}
 use Rattle.sweep_model.specs.Settings.{IsSettingOf, due_of, member_of, slot_at}
-use Rattle.sweep_model.specs.Hands.{FixedAt, Hand, IsSwept, Tied, forwarded_at, object_of, with_swept}
+use Rattle.sweep_model.specs.Hands.{FixedAt, Hand, IsSwept, Tied, forwarded_at, object_of, with_unswept}
 use Rattle.sweep_model.specs.Holding.{Holds, IsKnown, count_of, entry_of, mail_of, news_from}
 use Rattle.sweep_model.specs.Moves.{SweepGoes}
 use Rattle.sweep_model.proofs.Asking.{fixed_there}
 use Rattle.sweep_model.proofs.Apt.{core_collects, due_from}
 use Rattle.sweep_model.proofs.Counting.{alike_back, alike_both, count_append, count_found, count_none}
-use Rattle.sweep_model.proofs.Firsts.{filter_first, has_not}
+use Rattle.sweep_model.proofs.Lasts.{filter_last, has_not}
 use Rattle.sweep_model.proofs.Going.{goes_one, same_itself}
+use Rattle.sweep_model.proofs.Memory.{index_some}
 use Rattle.sweep_model.proofs.Names.{asks_collected, field_in, named_once}
 use Rattle.sweep_model.proofs.News.{IsNews, count_news, news_alike, news_some, some_news}
 
--- the first unswept object of the list is x
-module _ (world : World) (w : Setting) (h : Hand) (p : Part) (x q : ℕ) (s : Start)
+-- the last unswept object is x
+module _ (world : World) (w : Setting) (h : Hand) (others : List (ℕ × ℕ)) (p : Part) (x q : ℕ) (s : Start)
     (is_world : IsWorld world) (setting : IsSettingOf world w) (tied : Tied world h)
-    (left : h.swept < length h.own)
-    (pair : forwarded_at h.own h.swept ≡ (x, q)) (was : world.image x ≡ Some s)
+    (last : h.unswept ≡ others ++ (x, q) ∷ []) (was : world.image x ≡ Some s)
     (holds : Holds world w h [] p) where
-  is : (forwarded_at h.own h.swept).0 ≡ x
-  is = ap object_of pair
+  unswept_x : Contains h.unswept (x, q)
+  unswept_x = subst (λ l. Contains l (x, q)) (sym last) (Contains-push others (x, q))
 
   in_own : Contains h.own (x, q)
-  in_own = subst (Contains h.own) pair (Contains-get_or h.own h.swept (0, 0) left)
+  in_own = tied.unswept_in x q unswept_x
 
   mine : owner world.sweepers x ≡ h.number
   mine = (tied.mine x q in_own).0
@@ -56,33 +56,35 @@ module _ (world : World) (w : Setting) (h : Hand) (p : Part) (x q : ℕ) (s : St
 
   -- what is unswept after it
   abbrev rest : List ℕ
-  rest = map object_of (drop (h.swept + 1) h.own)
+  rest = map object_of others
 
-  unswept_is : p.unswept ≡ x ∷ map object_of (drop (h.swept + 1) h.own)
-  unswept_is =
-      holds.unswept
-      ∙ ap (map object_of) (drop-cons h.own h.swept (0, 0) left)
-      ∙ ap (λ y. y ∷ map object_of (drop (suc h.swept) h.own)) is
-      ∙ ap (λ m. x ∷ map object_of (drop m h.own)) (sym (add-one h.swept))
+  unswept_is : p.unswept ≡ map object_of others ++ x ∷ []
+  unswept_is = holds.unswept ∙ ap (map object_of) last ∙ map_push object_of others (x, q)
+
+  others_differ : (y r : ℕ) → Contains others (y, r) → y ≢ x
+  others_differ y r c e =
+      let i = index_some others (y, r) c in
+      let all : length h.unswept ≡ length others + 1 = ap length last ∙ length_push others (x, q) in
+      let there : forwarded_at h.unswept i.0 ≡ (y, r) =
+      ap (λ l. forwarded_at l i.0) last ∙ get_or_append_left others ((x, q) ∷ []) (0, 0) i.0 i.1 ∙ i.2 in
+      let end : forwarded_at h.unswept (length others) ≡ (x, q) =
+      ap (λ l. forwarded_at l (length others)) last ∙ get_or-append_seam others (x, q) [] (0, 0) in
+      let same : i.0 ≡ length others =
+      tied.unswept_once i.0 (length others) (omega (arith, i.1, all)) (omega (arith, all))
+      (ap object_of there ∙ e ∙ sym (ap object_of end)) in
+      absurd (omega (arith, same, i.1))
 
   rest_differ : (y : ℕ) → Contains rest y → y ≢ x
   rest_differ y c e =
-      let r = map_some object_of (drop (h.swept + 1) h.own) y c in
-      let few : length (drop (h.swept + 1) h.own) ≡ length h.own - (h.swept + 1) =
-      length-drop (h.swept + 1) h.own in
-      let below : h.swept + 1 + r.1.0 < length h.own = omega (arith, r.1.1, few) in
-      let there : forwarded_at h.own (h.swept + 1 + r.1.0) ≡ r.0 =
-      get_or_default h.own (h.swept + 1 + r.1.0) (0, 0) r.0 below
-      ∙ sym (get_or-drop (h.swept + 1) h.own r.1.0 r.0) ∙ r.1.2 in
-      let same : h.swept + 1 + r.1.0 ≡ h.swept =
-      tied.objects_once (h.swept + 1 + r.1.0) h.swept below left (ap object_of there ∙ r.2 ∙ e ∙ sym is) in
-      absurd (omega (arith, same))
+      let r = map_some object_of others y c in
+      others_differ r.0.0 r.0.1 r.1 (r.2 ∙ e)
 
   unswept_after : filter (λ y. not (y == x)) p.unswept ≡ rest
-  unswept_after = ap (filter (λ y. not (y == x))) unswept_is ∙ filter_first x rest rest_differ
+  unswept_after = ap (filter (λ y. not (y == x))) unswept_is ∙ filter_last x rest rest_differ
 
   unswept_before : IsTrue (has p.unswept x)
-  unswept_before = ap (λ l. has l x) unswept_is ∙ ap (λ z. z || has rest x) (eq-eqb x x refl)
+  unswept_before = some_any (λ y. y == x) p.unswept x
+      (subst (λ l. Contains l x) (sym unswept_is) (Contains-push rest x)) (eq-eqb x x refl)
 
   listed : IsTrue (in_list (alone (swept_here p x)) x)
   listed = some_any (λ (e : Entry). e.object == x) p.own (entry_of h.number (x, q))
@@ -118,9 +120,7 @@ module _ (world : World) (w : Setting) (h : Hand) (p : Part) (x q : ℕ) (s : St
       elim (holds.begun u c x i (ap (asks world) (sym field) ∙ k.wants)
       (k.slot ∙ ap (λ z. slot_at world z Keep u.slot.target) field) mine) [
         | inl old ↦ both_ways (is_collected world x) old collected
-        | inr r ↦
-            let first : r.0 ≡ h.swept = tied.objects_once r.0 h.swept r.2 left (r.3 ∙ sym is) in
-            absurd (omega (arith, r.1, first))
+        | inr r ↦ r.1 q unswept_x
       ]
 
   fresh : (u : Standing) → IsNews world w x 0 (length s.words) u → (d : Due) → Contains (all_dues w) d
@@ -199,7 +199,7 @@ module _ (world : World) (w : Setting) (h : Hand) (p : Part) (x q : ℕ) (s : St
 
   -- ---- and it stands for the part after it
 
-  still_there : (c : Back) (t : ℕ) → FixedAt world h c t → FixedAt world (with_swept h) c t
+  still_there : (c : Back) (t : ℕ) → FixedAt world h c t → FixedAt world (with_unswept h others) c t
   still_there (back.Register r) t f = f
   still_there (back.Field y i) t f = f
   still_there (back.Entry line part) t f = f
@@ -224,15 +224,16 @@ module _ (world : World) (w : Setting) (h : Hand) (p : Part) (x q : ℕ) (s : St
 
   -- a field that a new slot is of is one of x, which is swept now
   new_begun : (u : Standing) → Contains news u → (y j : ℕ) → asks world (back.Field y j) ≡ Some u.slot.target
-      → u.slot ≡ slot_at world (back.Field y j) Keep u.slot.target → IsSwept (with_swept h) y
+      → u.slot ≡ slot_at world (back.Field y j) Keep u.slot.target → IsSwept (with_unswept h others) y
   new_begun u c y j wants is_slot =
       let r = news_some world w x 0 (length s.words) u c in
       let field : back.Field y j ≡ back.Field x r.index =
       field_is (back.Field y j) u.slot.target r.index r.target wants r.wants
       (sym (ap (λ (a : Slot). a.name) is_slot) ∙ ap (λ (z : Standing). z.slot.name) r.is) in
-      (h.swept, omega arith, left, is ∙ sym (same_Some _ _ (ap member_of field)))
+      let same : y ≡ x = same_Some _ _ (ap member_of field) in
+      ((q, subst (λ z. Contains h.own (z, q)) (sym same) in_own), λ r c. others_differ y r c same)
 
-  once_again : (a : Slot) → count_of a (mail_of world (with_swept h) news) ≤ 1
+  once_again : (a : Slot) → count_of a (mail_of world (with_unswept h others) news) ≤ 1
   once_again a =
       let sum = count_append a news (mail_of world h []) in
       let new = count_news world w x 0 (length s.words) a in
@@ -247,7 +248,7 @@ module _ (world : World) (w : Setting) (h : Hand) (p : Part) (x q : ℕ) (s : St
             omega (arith, sum, none, new)
       ]
 
-  pub holds_swept : Holds world w (with_swept h) (news_from world w x 0 (length s.words))
+  pub holds_swept : Holds world w (with_unswept h others) (news_from world w x 0 (length s.words))
       (with_news (swept_here p x) (news_from world w x 0 (length s.words)))
   holds_swept = record {
     own = holds.own;
@@ -259,7 +260,7 @@ module _ (world : World) (w : Setting) (h : Hand) (p : Part) (x q : ℕ) (s : St
     here = λ u c. elim (Contains-append_cases p.here news u c) [
       | inl e ↦ elim (holds.here u e) [
         | inl m ↦ inl (Contains-append_right news (mail_of world h []) u m)
-        | inr f ↦ inr (fixed_there world h (with_swept h) u (λ c r _ _. still_there c r) f)
+        | inr f ↦ inr (fixed_there world h (with_unswept h others) u (λ c r _ _. still_there c r) f)
       ]
       | inr e ↦ inl (Contains-append_left news (mail_of world h []) u e)
     ];
@@ -281,7 +282,11 @@ module _ (world : World) (w : Setting) (h : Hand) (p : Part) (x q : ℕ) (s : St
     begun = λ u c y j a is_slot o. elim (Contains-append_cases p.here news u c) [
       | inl e ↦ elim (holds.begun u e y j a is_slot o) [
         | inl old ↦ inl old
-        | inr r ↦ inr (r.0, omega (arith, r.1), r.2, r.3)
+        | inr r ↦ inr (
+          r.0,
+          λ z c. r.1 z
+              (subst (λ l. Contains l (y, z)) (sym last) (Contains-append_left others ((x, q) ∷ []) (y, z) c)),
+        )
       ]
       | inr e ↦ inr (new_begun u e y j a is_slot)
     ];
@@ -289,8 +294,8 @@ module _ (world : World) (w : Setting) (h : Hand) (p : Part) (x q : ℕ) (s : St
 
 -- so a sweep is an event
 pub sweep_goes : SweepGoes
-sweep_goes world w h x q s is_world setting tied left pair was p holds =
-    goes_one world w h.number (with_swept h) (news_from world w x 0 (length s.words)) p
+sweep_goes world w h others x q s is_world setting tied last was p holds =
+    goes_one world w h.number (with_unswept h others) (news_from world w x 0 (length s.words)) p
     (with_news (swept_here p x) (news_from world w x 0 (length s.words))) _ (Sweep h.number x)
-    (sweeps world w h p x q s is_world setting tied left pair was holds) (same_itself _)
-    (holds_swept world w h p x q s is_world setting tied left pair was holds)
+    (sweeps world w h others p x q s is_world setting tied last was holds) (same_itself _)
+    (holds_swept world w h others p x q s is_world setting tied last was holds)

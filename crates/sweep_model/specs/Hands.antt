@@ -1,5 +1,5 @@
 -- What one sweeper has in hand.
-use Rattle.std.specs.Prelude.{◌≡◌, ◌≢◌, ℕ, ◌+◌, ◌<◌, ◌≤◌, true, false, List, [], ◌∷◌, ◌++◌, drop, map, length, slice_index, slice_index_or, slice_set, Option, None, Some, Contains, ◌⊎◌}
+use Rattle.std.specs.Prelude.{◌≡◌, ◌≢◌, ℕ, ◌<◌, true, false, List, [], ◌∷◌, ◌++◌, map, length, slice_index, slice_index_or, slice_set, Option, None, Some, Contains, ◌⊎◌}
 use Rattle.gc_words.specs.declared.value.Value.{Value}
 use Rattle.gc_words.specs.declared.value.Value.TheVariants as value
 use Rattle.gc_words.specs.Word.{value_of}
@@ -13,12 +13,13 @@ use Rattle.gc_mail.specs.Recipients.{holder_of, owner}
 use Rattle.sweep_model.specs.World.{World, asks, is_collected, goes_to}
 
 -- A sweeper: its number; what starts in its territories; the pairs of an object and its place in the order of
--- forwarding, and how many of them are swept; its registers; and its mail.
+-- forwarding, and those of them whose objects are not swept, of which the last is swept next; its registers; and its
+-- mail.
 pub record Hand : Type 0 where
   pub number : ℕ
   pub now : ℕ → Option Start
   pub own : List (ℕ × ℕ)
-  pub swept : ℕ
+  pub unswept : List (ℕ × ℕ)
   pub register : ℕ → Option Value
   pub inbox : List Message
   pub outbox : List Message
@@ -31,10 +32,11 @@ abbrev pub object_of : ℕ × ℕ → ℕ
 object_of f = f.0
 
 abbrev pub unswept_of : Hand → List ℕ
-unswept_of h = map object_of (drop h.swept h.own)
+unswept_of h = map object_of h.unswept
 
+-- the object was forwarded, and is not among the unswept
 abbrev pub IsSwept : Hand → ℕ → Type 0
-IsSwept h x = (n : ℕ) × (n < h.swept) × (n < length h.own) × ((forwarded_at h.own n).0 ≡ x)
+IsSwept h x = ((p : ℕ) × Contains h.own (x, p)) × ((p : ℕ) → Contains h.unswept (x, p) → ⊥)
 
 -- the object has no place yet
 abbrev pub IsAbsent : List (ℕ × ℕ) → ℕ → Type 0
@@ -86,7 +88,10 @@ pub record Tied (world : World) (h : Hand) : Type 0 where
       → (forwarded_at h.own m).0 ≡ (forwarded_at h.own n).0 → m ≡ n
   pub places_once : (m n : ℕ) → m < length h.own → n < length h.own
       → (forwarded_at h.own m).1 ≡ (forwarded_at h.own n).1 → m ≡ n
-  pub swept_in : h.swept ≤ length h.own
+  -- what is unswept was forwarded, and is there once
+  pub unswept_in : (x p : ℕ) → Contains h.unswept (x, p) → Contains h.own (x, p)
+  pub unswept_once : (m n : ℕ) → m < length h.unswept → n < length h.unswept
+      → (forwarded_at h.unswept m).0 ≡ (forwarded_at h.unswept n).0 → m ≡ n
   -- and there is nothing else
   pub only : (p : ℕ) (s : Start) → h.now p ≡ Some s
       → (owner world.sweepers p ≡ h.number) × (((s' : Start) × (world.image p ≡ Some s')) ⊎ ((x : ℕ) × Contains h.own (x, p)))
@@ -100,7 +105,7 @@ pub record Tied (world : World) (h : Hand) : Type 0 where
 pub record IsCopiedNow (targets : Targets) (h h' : Hand) (x q : ℕ) : Type 0 where
   pub number : h'.number ≡ h.number
   pub own : h'.own ≡ h.own ++ (x, q) ∷ []
-  pub swept : h'.swept ≡ h.swept
+  pub unswept : h'.unswept ≡ h.unswept ++ (x, q) ∷ []
   pub register : h'.register ≡ h.register
   pub inbox : h'.inbox ≡ h.inbox
   pub outbox : h'.outbox ≡ h.outbox
@@ -115,7 +120,7 @@ pub record IsCopiedNow (targets : Targets) (h h' : Hand) (x q : ℕ) : Type 0 wh
 pub record IsPutAt (h h' : Hand) (p i word : ℕ) : Type 0 where
   pub number : h'.number ≡ h.number
   pub own : h'.own ≡ h.own
-  pub swept : h'.swept ≡ h.swept
+  pub unswept : h'.unswept ≡ h.unswept
   pub register : h'.register ≡ h.register
   pub inbox : h'.inbox ≡ h.inbox
   pub outbox : h'.outbox ≡ h.outbox
@@ -127,7 +132,7 @@ pub record IsRegisterSet (h h' : Hand) (r q : ℕ) : Type 0 where
   pub number : h'.number ≡ h.number
   pub now : h'.now ≡ h.now
   pub own : h'.own ≡ h.own
-  pub swept : h'.swept ≡ h.swept
+  pub unswept : h'.unswept ≡ h.unswept
   pub inbox : h'.inbox ≡ h.inbox
   pub outbox : h'.outbox ≡ h.outbox
   pub here : h'.register r ≡ Some (value.Object q)
@@ -140,5 +145,6 @@ with_sent h m = record h { outbox = h.outbox ++ m ∷ [] }
 abbrev pub with_inbox : Hand → List Message → Hand
 with_inbox h ms = record h { inbox = ms }
 
-abbrev pub with_swept : Hand → Hand
-with_swept h = record h { swept = h.swept + 1 }
+-- others are unswept
+abbrev pub with_unswept : Hand → List (ℕ × ℕ) → Hand
+with_unswept h rest = record h { unswept = rest }

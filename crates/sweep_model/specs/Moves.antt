@@ -1,5 +1,5 @@
 -- What a sweeper does, step by step, and that each step is a list of events of its own.
-use Rattle.std.specs.Prelude.{◌≡◌, ◌≢◌, ℕ, ◌<◌, true, List, [], ◌∷◌, length, Some, Contains}
+use Rattle.std.specs.Prelude.{◌≡◌, ◌≢◌, ℕ, true, List, [], ◌∷◌, ◌++◌, length, Some, Contains}
 use Rattle.gc_words.specs.declared.value.Value.TheVariants as value
 use Rattle.gc_words.specs.Word.{value_of}
 use Rattle.segment.specs.Segments.{Start}
@@ -12,14 +12,14 @@ use Rattle.owned_core.specs.declared.slot.Standing.{Standing}
 use Rattle.owned_core.specs.Settings.{Setting}
 use Rattle.sweep_model.specs.World.{World, IsWorld, asks, is_collected}
 use Rattle.sweep_model.specs.Settings.{IsSettingOf}
-use Rattle.sweep_model.specs.Hands.{Hand, FixedAt, IsAt, IsCopiedNow, IsPutAt, IsRegisterSet, Tied, forwarded_at, with_inbox, with_sent, with_swept}
+use Rattle.sweep_model.specs.Hands.{Hand, FixedAt, IsAt, IsCopiedNow, IsPutAt, IsRegisterSet, Tied, with_inbox, with_sent, with_unswept}
 use Rattle.sweep_model.specs.Holding.{Goes, in_standing, news_from, out_standing}
 
 -- the place q was written where the slot wants it, and nowhere else
 pub record IsWritten (world : World) (h h' : Hand) (b : Back) (q : ℕ) : Type 0 where
   pub number : h'.number ≡ h.number
   pub own : h'.own ≡ h.own
-  pub swept : h'.swept ≡ h.swept
+  pub unswept : h'.unswept ≡ h.unswept
   pub inbox : h'.inbox ≡ h.inbox
   pub outbox : h'.outbox ≡ h.outbox
   pub there : FixedAt world h' b q
@@ -54,7 +54,8 @@ MailKeepsTied =
 
 abbrev pub SweepKeepsTied : Type 0
 SweepKeepsTied =
-    (world : World) (h : Hand) → Tied world h → h.swept < length h.own → Tied world (with_swept h)
+    (world : World) (h : Hand) (rest : List (ℕ × ℕ)) (x p : ℕ) → Tied world h → h.unswept ≡ rest ++ (x, p) ∷ []
+    → Tied world (with_unswept h rest)
 
 -- ---- events
 
@@ -66,12 +67,12 @@ CopyGoes =
     → IsCopiedNow world.targets h h' x q
     → Goes world w h (in_standing world (message.Forward x b) ∷ todo) h' (in_standing world (message.Forward x b) ∷ todo)
 
--- the first unswept object is swept: the slots of its fields are at hand
+-- the last unswept object is swept: the slots of its fields are at hand
 abbrev pub SweepGoes : Type 0
 SweepGoes =
-    (world : World) (w : Setting) (h : Hand) (x p : ℕ) (s : Start) → IsWorld world → IsSettingOf world w → Tied world h
-    → h.swept < length h.own → forwarded_at h.own h.swept ≡ (x, p) → world.image x ≡ Some s
-    → Goes world w h [] (with_swept h) (news_from world w x 0 (length s.words))
+    (world : World) (w : Setting) (h : Hand) (rest : List (ℕ × ℕ)) (x p : ℕ) (s : Start) → IsWorld world
+    → IsSettingOf world w → Tied world h → h.unswept ≡ rest ++ (x, p) ∷ [] → world.image x ≡ Some s
+    → Goes world w h [] (with_unswept h rest) (news_from world w x 0 (length s.words))
 
 -- a slot that was not heard of is asked for
 abbrev pub AskGoes : Type 0

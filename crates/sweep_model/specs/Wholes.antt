@@ -112,7 +112,7 @@ ExchangeStands =
 pub record IsQuiet (h : Hand) : Type 0 where
   pub inbox : h.inbox ≡ []
   pub outbox : h.outbox ≡ []
-  pub swept : length h.own ≤ h.swept
+  pub swept : h.unswept ≡ []
 
 -- Each object that the rules reach was forwarded by its owner, and nothing else; each slot of what was forwarded, of
 -- what is older and of registers has the place of its object.
@@ -157,7 +157,7 @@ pub record Begins (world : World) (h : Hand) : Type 0 where
   pub number_in : h.number < world.sweepers
   pub tied : Tied world h
   pub own : h.own ≡ []
-  pub swept : h.swept ≡ 0
+  pub unswept : h.unswept ≡ []
   pub comes : (m : Message) → Contains h.inbox m
       → AsksForRoot world h m × (recipient_of world.sweepers m ≡ h.number)
   pub goes : (m : Message) → Contains h.outbox m

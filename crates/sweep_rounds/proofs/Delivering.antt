@@ -22,7 +22,7 @@ mailed_in : (world : World) (v : SweeperView) (inbox outbox : List Message) → 
     → IsReadyIn world (record v { inbox = inbox; outbox = outbox })
 mailed_in world v inbox outbox ready hand =
     let v' : SweeperView = record v { inbox = inbox; outbox = outbox } in
-    let steady : IsSteady v v' = mailed_steady world v v.swept inbox outbox ready in
+    let steady : IsSteady v v' = mailed_steady world v v.places.unswept inbox outbox ready in
     record {
       is_world = ready.is_world;
       joined = joined_on v v' ready.joined steady;

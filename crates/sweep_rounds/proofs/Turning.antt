@@ -26,7 +26,7 @@ module _ (n : ℕ) (f g h : ℕ → SweeperView) (rounds : Rounds n f g) (mailed
   quiet_now quiet k b = record {
     inbox = none_came n g h mailed quiet k b;
     outbox = ap (λ (v : SweeperView). v.outbox) (mailed.same k b);
-    swept = subst (λ (v : SweeperView). length v.places.own ≤ v.swept) (sym (mailed.same k b)) (rounds k b).swept;
+    swept = ap (λ (v : SweeperView). v.places.unswept) (mailed.same k b) ∙ (rounds k b).swept;
   }
 
   -- and where none went, it is the end

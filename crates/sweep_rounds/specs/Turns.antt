@@ -95,7 +95,7 @@ Ends n f g =
 pub record Rounded (v v' : SweeperView) : Type 0 where
   pub runs : RunsRound v v'
   pub inbox : v'.inbox ≡ []
-  pub swept : length v'.places.own ≤ v'.swept
+  pub swept : v'.places.unswept ≡ []
   pub round : v'.round ≡ min (v.round + 1) (2 ^ 64 - 1)
 
 abbrev pub Rounds : ℕ → (ℕ → SweeperView) → (ℕ → SweeperView) → Type 0

@@ -35,16 +35,6 @@ module _ (old mid s : SweeperView) (d : DirectoryView) (t q n h k : ℕ) (b : Sl
   pub not_held : h ≢ k → holder_of old.share.sweepers b ≢ old.share.number
   not_held other e = other (holder_was ∙ e ∙ sym number_was)
 
--- where a kept object goes
-pub goes_where : (v : SweeperView) (d : DirectoryView) (t g r : ℕ) (can : CanKeep v t) → v.places.directory ≡ d
-    → IfSome (from_at d t) (λ f. g ≡ f.generation) → r ≡ target_of d.targets g
-    → r ≡ target_of v.places.directory.targets can.start.generation
-goes_where v d t g r can same from is =
-    let lies : from_at d t ≡ Some can.from = sym (ap (λ z. from_at z t) same) ∙ can.lies in
-    is ∙ ap (λ (z : DirectoryView). target_of z.targets g) (sym same)
-    ∙ ap (target_of v.places.directory.targets)
-    (if_from (from_at d t) (λ f. g ≡ f.generation) can.from lies from ∙ can.same)
-
 -- a message was sent
 pub sent_is : (s v : SweeperView) (outbox : List Message) (m : Message) → s ≡ v
     → outbox ≡ s.outbox ++ m ∷ [] → record s { outbox = outbox } ≡ sends v m

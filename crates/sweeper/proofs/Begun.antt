@@ -43,7 +43,6 @@ made share registers places inbox outbox = record {
   share = share;
   registers = registers;
   places = places;
-  swept = 0;
   inbox = inbox;
   outbox = outbox;
   round = 0;
@@ -66,7 +65,7 @@ module _ (world : World) (number : ℕ) (d : DirectoryView) (territories : List 
   s = first_share number d territories
 
   abbrev v : SweeperView
-  v = made raised_share (first_registers number d items) (record { number = number; directory = d; own = [] })
+  v = made raised_share (first_registers number d items) (record { number = number; directory = d; own = []; unswept = [] })
       (to_itself s asked) (to_others s asked)
 
   number_is : raised_share.number ≡ number
@@ -109,7 +108,8 @@ module _ (world : World) (number : ℕ) (d : DirectoryView) (territories : List 
     fresh = λ x p c. absurd (contains_none (x, p) c);
     objects_once = λ m n h k e. absurd (omega (arith, h));
     places_once = λ m n h k e. absurd (omega (arith, h));
-    swept_in = omega arith;
+    unswept_in = λ x p c. absurd (contains_none (x, p) c);
+    unswept_once = λ m n h k e. absurd (omega (arith, h));
     only = λ p y is. let own = now_own p y is in (own ∙ sym number_is, inl (y, sym (now_is p own) ∙ is));
     registers = λ r mine none. begins.held r (mine ∙ number_is);
   }
@@ -339,7 +339,7 @@ pub begun : (world : World) (number : ℕ) (d : DirectoryView) (territories : Li
     (first mid last : Mail) (cg : ℕ)
     → AreShareOf number (sweeper_count d) territories → AreRegistersOf number (sweeper_count d) items
     → share ≡ first_share number d territories → registers ≡ first_registers number d items
-    → places ≡ record { number = number; directory = d; own = [] } → first.inbox ≡ [] → first.outbox ≡ []
+    → places ≡ record { number = number; directory = d; own = []; unswept = [] } → first.inbox ≡ [] → first.outbox ≡ []
     → AreAsked share first mid (AsksOfRegisters d registers (length registers.items))
     → AreAsked share mid last (AsksOfOldsOfAll d share (length share.territories))
     → ((i : ℕ) → i < length share.territories → AreTold (territory_at share i) d.targets.cg)

@@ -1,9 +1,9 @@
 -- What a field asks for, as the code finds it.
-use Rattle.std.proofs.Common.{◌≡◌, ℕ, ◌<◌, Bool, true, false, cond, List, [], ◌∷◌, ◌++◌, length, get_or, slice_index, Option, None, Some, IsSome, IsTrue, refl, sym, ap, subst, ◌∙◌, arith}
-use Rattle.std.specs.Prelude.{is_some}
+use Rattle.std.proofs.Common.{◌≡◌, ℕ, ◌<◌, ◌≤◌, Bool, true, false, cond, List, [], ◌∷◌, ◌++◌, length, slice_index, Option, None, Some, IfNone, IfSome, IsTrue, refl, sym, ap, subst, ◌∙◌, arith}
 use Rattle.std.proofs.lemmas.Bool.{false≢true}
+use Rattle.std.proofs.lemmas.Option.{none-some, same_Some}
+use Rattle.gc_words.specs.Layout.{offset_of}
 use Rattle.gc_words.specs.Word.{value_of}
-use Rattle.trace_types.specs.declared.kind.Kind.{Kind}
 use Rattle.segment.specs.Segments.{Start}
 use Rattle.territory.specs.Territories.{words_of}
 use Rattle.gc_mail.specs.declared.message.Message.{Message}
@@ -11,43 +11,72 @@ use Rattle.gc_mail.specs.declared.message.Message.TheVariants as message
 use Rattle.gc_mail.specs.declared.message.Slot.TheVariants as back
 use Rattle.gc_mail.specs.Recipients.{owner}
 use Rattle.territory.specs.Finishing.{target_of}
-use Rattle.directory.specs.Directories.{DirectoryView, from_at}
-use Rattle.sweep_model.specs.World.{is_strong, object_in, strong_value}
+use Rattle.directory.specs.declared.table.FromSegment.{FromSegment}
+use Rattle.directory.specs.declared.table.Found.{Found}
+use Rattle.directory.specs.Tables.{word_at}
+use Rattle.directory.specs.Directories.{DirectoryView, found_at, found_in, from_at, word_in, word_or_0}
+use Rattle.sweep_model.specs.World.{is_strong, object_in}
 use Rattle.sweep_share.specs.Shares.{start_in}
-use Rattle.sweeper.specs.Sweepers.{CanKeep, FieldDone, IsForeign, IsKept, IsOwn, Puts, SweeperView, asked_in, if_aside, sends}
-use Rattle.sweeper.proofs.Kept.{some_of}
+use Rattle.sweeper.specs.Sweepers.{CanKeep, FieldDone, GoesTo, IsForeign, IsKept, IsOwn, Puts, SweeperView, asked_in, sends}
 
-strong : (s : Start) (k : Kind) (i : ℕ) → s.kind ≡ k → is_strong k i ≡ true → strong_value (Some s) i ≡ value_of (get_or s.words i 0)
-strong s k i kind e = ap (λ b. cond b (value_of (get_or s.words i 0)) None) (ap (λ z. is_strong z i) kind ∙ e)
+-- ---- what the directory told
 
--- a strong field whose word refers to something in a from-segment asks for it
-pub asked_some : (d : DirectoryView) (o : Option Start) (k : Kind) (i t word : ℕ) → ((s : Start) → o ≡ Some s → s.kind ≡ k)
-    → is_strong k i ≡ true → i < length (words_of o) → word ≡ slice_index (words_of o) i → object_in (value_of word) ≡ Some t
-    → is_some (from_at d t) ≡ true → asked_in d o i ≡ Some t
-asked_some d None k i t word kind e within is names young = absurd (omega (arith, within))
-asked_some d (Some s) k i t word kind e within is names young =
-    ap (λ o. if_aside d (object_in o)) (strong s k i (kind s refl) e)
-    ∙ (ap (λ n. if_aside d (object_in (value_of n))) (sym is) ∙ (ap (if_aside d) names ∙ ap (λ b. cond b (Some t) None) young))
+-- of what lies in a from-segment it told the generation and the word
+pub found_is : (d : DirectoryView) (t : ℕ) (from : FromSegment) (found : Found) → from_at d t ≡ Some from
+    → found_at d t ≡ Some found → (found.generation ≡ from.generation) × (found.word ≡ word_in d t)
+found_is d t from found lies is =
+    let e : Some found ≡ Some (record { generation = from.generation; word = word_at from (offset_of t) }) =
+    sym is ∙ ap (λ o. found_in o (offset_of t)) lies in
+    let same : found ≡ record { generation = from.generation; word = word_at from (offset_of t) } = same_Some _ _ e in
+    (
+      ap (λ (f : Found). f.generation) same,
+      ap (λ (f : Found). f.word) same ∙ ap (λ o. word_or_0 o (offset_of t)) (sym lies),
+    )
+
+-- so the generation to which it goes
+pub goes_to_target : (v : SweeperView) (d : DirectoryView) (t refers : ℕ) (found : Found) (c : CanKeep v t)
+    → v.places.directory ≡ d → found_at d t ≡ Some found → refers ≡ target_of d.targets found.generation
+    → refers ≡ target_of v.places.directory.targets c.start.generation
+goes_to_target v d t refers found c same is target =
+    let lies : from_at d t ≡ Some c.from = ap (λ z. from_at z t) (sym same) ∙ c.lies in
+    target ∙ ap (λ (z : DirectoryView). target_of z.targets found.generation) (sym same)
+    ∙ ap (target_of v.places.directory.targets) ((found_is d t c.from found lies is).0 ∙ c.same)
+
+pub goes_there : (v : SweeperView) (d : DirectoryView) (t refers : ℕ) (found : Found) → CanKeep v t
+    → v.places.directory ≡ d → found_at d t ≡ Some found → refers ≡ target_of d.targets found.generation → GoesTo v t refers
+goes_there v d t refers found c same is target s here =
+    goes_to_target v d t refers found c same is target
+    ∙ ap (λ (z : Start). target_of v.places.directory.targets z.generation) (same_Some _ _ (sym c.here ∙ here))
+
+-- ... and its word
+pub word_there : (v : SweeperView) (d : DirectoryView) (t : ℕ) (found : Found) → CanKeep v t → v.places.directory ≡ d
+    → found_at d t ≡ Some found → found.word ≡ word_in v.places.directory t
+word_there v d t found c same is =
+    (found_is d t c.from found (ap (λ z. from_at z t) (sym same) ∙ c.lies) is).1 ∙ ap (λ z. word_in z t) (sym same)
+
+-- it is of a collected generation
+pub young_there : (v : SweeperView) (d : DirectoryView) (t : ℕ) (found : Found) → CanKeep v t → v.places.directory ≡ d
+    → found_at d t ≡ Some found → found.generation ≤ d.targets.cg
+young_there v d t found c same is =
+    let g = (found_is d t c.from found (ap (λ z. from_at z t) (sym same) ∙ c.lies) is).0 ∙ c.same in
+    let cg = ap (λ (z : DirectoryView). z.targets.cg) same in
+    omega (arith, g, cg, c.young)
+
+-- what may be kept is told of
+pub told_there : (v : SweeperView) (d : DirectoryView) (t : ℕ) → CanKeep v t → v.places.directory ≡ d → found_at d t ≡ None → ⊥
+told_there v d t c same none =
+    none-some _ (sym none ∙ ap (λ o. found_in o (offset_of t)) (ap (λ z. from_at z t) (sym same) ∙ c.lies))
+
+-- ---- what a field becomes
 
 -- an object of its own was kept and its place put
-pub own_done : (v mid new : SweeperView) (x p i t q g refers : ℕ) (c : CanKeep v t)
+pub own_done : (v mid new : SweeperView) (x p i t q refers : ℕ) (c : CanKeep v t)
     → asked_in v.places.directory (start_in v.share x) i ≡ Some t → IsKept v mid t q
-    → refers ≡ target_of v.places.directory.targets g → g ≡ c.from.generation → Puts mid new p i q refers → FieldDone v new x p i
-own_done v mid new x p i t q g refers c asked kept is same put =
-    IsOwn t q mid c asked kept
-    (subst (Puts mid new p i q) (is ∙ ap (target_of v.places.directory.targets) (same ∙ c.same)) put)
+    → refers ≡ target_of v.places.directory.targets c.start.generation → Puts mid new p i q refers → FieldDone v new x p i
+own_done v mid new x p i t q refers c asked kept is put =
+    IsOwn t q mid c asked kept (subst (Puts mid new p i q) is put)
 
 -- ---- where the fields of the struct show the value
-
-pub is_asked : (s v : SweeperView) (d : DirectoryView) (x i t word : ℕ) (b : Bool) (k : Kind) → s ≡ v → v.places.directory ≡ d
-    → ((y : Start) → start_in v.share x ≡ Some y → y.kind ≡ k) → is_strong k i ≡ true → i < length (words_of (start_in v.share x))
-    → word ≡ slice_index (words_of (start_in s.share x)) i → object_in (value_of word) ≡ Some t → b ≡ true
-    → (IsTrue b → IsSome (from_at d t)) × (IsSome (from_at d t) → IsTrue b)
-    → asked_in v.places.directory (start_in v.share x) i ≡ Some t
-is_asked s v d x i t word b k e same kind strong within is names young collected =
-    asked_some v.places.directory (start_in v.share x) k i t word kind strong within
-    (is ∙ ap (λ (z : SweeperView). slice_index (words_of (start_in z.share x)) i) e) names
-    (ap (λ z. is_some (from_at z t)) same ∙ some_of (from_at d t) b young collected)
 
 pub own_is : (s v : SweeperView) (t : ℕ) (b : Bool) → s ≡ v → b ≡ true
     → (IsTrue b → owner s.share.sweepers t ≡ s.share.number) × (owner s.share.sweepers t ≡ s.share.number → IsTrue b)

@@ -1,5 +1,5 @@
 -- What keeping an object and putting a place do to a sweeper.
-use Rattle.std.proofs.Common.{◌≡◌, ℕ, ◌≤◌, Bool, true, false, [], ◌∷◌, ◌++◌, Option, None, Some, IsSome, IfSome, IsTrue, refl, sym, ap, subst, ◌∙◌, inl, inr, arith}
+use Rattle.std.proofs.Common.{◌≡◌, ℕ, ◌+◌, ◌^◌, ◌<◌, ◌≤◌, Bool, true, false, [], ◌∷◌, ◌++◌, length, Option, None, Some, IsSome, IfSome, IsTrue, refl, sym, ap, subst, ◌∙◌, inl, inr, arith, length-append}
 use Rattle.std.specs.Prelude.{is_some}
 use Rattle.std.proofs.lemmas.Bool.{false≢true}
 use Rattle.std.proofs.lemmas.Bool.Decides.{nat_tests}
@@ -18,7 +18,7 @@ use Rattle.sweep_model.specs.Hands.{IsAbsent}
 use Rattle.sweep_model.proofs.Memory.{index_some}
 use Rattle.sweep_share.specs.Shares.{IsAlike, IsCopied, IsPut, ShareView, start_in}
 use Rattle.sweep_places.specs.Places.{PlacesView}
-use Rattle.sweeper.specs.Sweepers.{CanKeep, Copies, HasField, IsJoined, Puts, SweeperView}
+use Rattle.sweeper.specs.Sweepers.{CanKeep, Copies, GoesTo, HasField, IsJoined, Puts, SweeperView}
 
 -- a collected generation goes to its target
 pub goes_target : (targets : Targets) (g : ℕ) → g ≤ targets.cg → goes_to targets g ≡ target_of targets g
@@ -37,18 +37,15 @@ joined_share v share j a = record {
   register_count = j.register_count ∙ sym a.sweepers;
 }
 
-module _ (v : SweeperView) (x q generation g : ℕ) (share : ShareView) (places : PlacesView) (c : CanKeep v x)
-    (is : generation ≡ target_of v.places.directory.targets g) (same : g ≡ c.from.generation)
-    (copied : IsCopied v.share share x generation q) (noted : places ≡ record v.places { own = v.places.own ++ (x, q) ∷ [] })
-    (absent : IsAbsent v.places.own x) where
-  its_target : (s : Start) → start_in v.share x ≡ Some s → generation ≡ target_of v.places.directory.targets s.generation
-  its_target s e = is ∙ ap (target_of v.places.directory.targets) (same ∙ c.same ∙ ap (λ (z : Start). z.generation) (same_Some _ _ (sym c.here ∙ e)))
-
+module _ (v : SweeperView) (x q generation : ℕ) (share : ShareView) (places : PlacesView) (c : CanKeep v x)
+    (to : GoesTo v x generation) (copied : IsCopied v.share share x generation q)
+    (noted : places ≡ record v.places { own = v.places.own ++ (x, q) ∷ []; unswept = v.places.unswept ++ (x, q) ∷ [] })
+    (few : length v.places.own + 1 < 2 ^ 64) (absent : IsAbsent v.places.own x) where
   goes : (s : Start) → start_in v.share x ≡ Some s → generation ≡ goes_to v.places.directory.targets s.generation
   goes s e =
       let young : s.generation ≤ v.places.directory.targets.cg =
       subst (λ (z : Start). z.generation ≤ v.places.directory.targets.cg) (same_Some _ _ (sym c.here ∙ e)) c.young in
-      its_target s e ∙ sym (goes_target v.places.directory.targets s.generation young)
+      to s e ∙ sym (goes_target v.places.directory.targets s.generation young)
 
   -- the object at x was copied to q
   pub copies : Copies v (record v { share = share; places = places }) x q
@@ -65,7 +62,7 @@ module _ (v : SweeperView) (x q generation g : ℕ) (share : ShareView) (places 
     copied = record {
       number = copied.alike.number;
       own = ap (λ (z : PlacesView). z.own) noted;
-      swept = refl;
+      unswept = ap (λ (z : PlacesView). z.unswept) noted;
       register = refl;
       inbox = refl;
       outbox = refl;
@@ -75,19 +72,23 @@ module _ (v : SweeperView) (x q generation g : ℕ) (share : ShareView) (places 
       here = λ y e. copied.here y e ∙ ap (λ n. Some (copy_in n y)) (goes y e);
       others = copied.others;
     };
+    few = omega (arith, few, ap (λ (z : PlacesView). length z.own) noted, length-append v.places.own ((x, q) ∷ []));
     stays = copied.stays;
-    sound = λ told s e none. copied.sound told s e (subst (RefersToNoneBelow told s) (sym (its_target s e)) none);
+    sound = λ told s e none. copied.sound told s e (subst (RefersToNoneBelow told s) (sym (to s e)) none);
   }
 
 -- the same, where the fields show the value
-pub copies_shown : (s v : SweeperView) (x q generation g : ℕ) (share : ShareView) (places : PlacesView) → s ≡ v → (c : CanKeep v x)
-    → generation ≡ target_of v.places.directory.targets g → g ≡ c.from.generation → IsCopied s.share share x generation q
-    → places ≡ record s.places { own = s.places.own ++ (x, q) ∷ [] } → IsAbsent v.places.own x
+pub copies_shown : (s v : SweeperView) (x q generation : ℕ) (share : ShareView) (places : PlacesView) → s ≡ v
+    → CanKeep v x → GoesTo v x generation → IsCopied s.share share x generation q
+    → places ≡ record s.places { own = s.places.own ++ (x, q) ∷ []; unswept = s.places.unswept ++ (x, q) ∷ [] }
+    → length s.places.own + 1 < 2 ^ 64 → IsAbsent v.places.own x
     → Copies v (record s { share = share; places = places }) x q
-copies_shown s v x q generation g share places e c is same copied noted absent =
+copies_shown s v x q generation share places e c goes copied noted few absent =
     subst (λ z. Copies v (record z { share = share; places = places }) x q) (sym e)
-    (copies v x q generation g share places c is same (subst (λ z. IsCopied z.share share x generation q) e copied)
-    (subst (λ z. places ≡ record z.places { own = z.places.own ++ (x, q) ∷ [] }) e noted) absent)
+    (copies v x q generation share places c goes (subst (λ z. IsCopied z.share share x generation q) e copied)
+    (subst (λ (z : SweeperView). places
+    ≡ record z.places { own = z.places.own ++ (x, q) ∷ []; unswept = z.places.unswept ++ (x, q) ∷ [] }) e noted)
+    (subst (λ (z : SweeperView). length z.places.own + 1 < 2 ^ 64) e few) absent)
 
 -- ---- a place put
 
@@ -117,7 +118,7 @@ puts s v p i q refers word share e put is = subst (λ z. Puts z (record s { shar
   put = record {
     number = put.alike.number;
     own = refl;
-    swept = refl;
+    unswept = refl;
     register = refl;
     inbox = refl;
     outbox = refl;

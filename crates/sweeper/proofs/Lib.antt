@@ -1,4 +1,5 @@
 pub mod Kept
+pub mod FieldWords
 pub mod Fielding
 pub mod WorldSteady
 pub mod WorldReady

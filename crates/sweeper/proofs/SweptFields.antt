@@ -1,26 +1,52 @@
 -- The fields of the object that is swept, as the code counts and handles them.
-use Rattle.std.proofs.Common.{◌≡◌, ℕ, ◌<◌, ◌≤◌, false, length, Option, Some, IsSome, IfSome, refl, sym, ap, subst, ◌∙◌, arith}
+use Rattle.std.proofs.Common.{◌≡◌, ℕ, ◌+◌, ◌-◌, ◌^◌, ◌<◌, ◌≤◌, true, false, cond, List, [], ◌∷◌, ◌++◌, take, length, get_or, Option, None, Some, IsSome, IfSome, refl, sym, ap, subst, ◌∙◌, arith, length-append}
+use Rattle.std.proofs.Math.Seq.{take-append_seam}
 use Rattle.trace_types.specs.declared.kind.Kind.{Kind}
 use Rattle.trace_types.specs.declared.kind.Kind.TheVariants as kind
 use Rattle.segment.specs.Layout.{HasLength, words_after}
 use Rattle.segment.specs.Segments.{Start}
 use Rattle.territory.specs.Territories.{IsShaped, words_of}
-use Rattle.sweep_model.specs.World.{is_strong}
-use Rattle.sweep_model.specs.Hands.{forwarded_at}
-use Rattle.sweep_share.specs.Shares.{start_in}
-use Rattle.sweeper.specs.Sweepers.{FieldDone, IsForeign, IsKept, IsKeptNow, IsOwn, IsPlain, SweeperView, WasKept}
+use Rattle.gc_words.specs.Word.{value_of}
+use Rattle.sweep_model.specs.World.{is_strong, object_in}
+use Rattle.sweep_share.specs.Shares.{ShareView, start_in}
+use Rattle.sweep_places.specs.Places.{PlacesView}
+use Rattle.sweeper.specs.Sweepers.{AreStrong, AskNothing, FieldDone, IsForeign, IsKept, IsKeptNow, IsOwn, IsPlain, SweeperView, WasKept, asked_in, if_aside, left_of}
 use Rattle.sweeper.specs.Ready.{Ready}
-use Rattle.sweeper.proofs.WorldSwept.{IsNext, IsSweptTo, next_is, swept_there, there_words}
+use Rattle.sweeper.proofs.WorldReady.{with_rest}
+use Rattle.sweeper.proofs.WorldSwept.{IsNext, IsSweptTo, next_is, one_swept, rest_of, swept_there, there_words}
 
 -- ---- the object
 
--- what is read at the index of the next one
-pub is_next : (s v : SweeperView) (r : ℕ × ℕ) → s ≡ v → v.swept < length v.places.own → r ≡ forwarded_at s.places.own s.swept
-    → IsNext v r.0 r.1
-is_next s v r e left is = record {
-  left = left;
-  is = sym (is ∙ ap (λ (z : SweeperView). forwarded_at z.places.own z.swept) e);
-}
+-- what is before the last
+front : (l : List (ℕ × ℕ)) (f : ℕ × ℕ) → take (length (l ++ f ∷ []) - 1) (l ++ f ∷ []) ≡ l
+front l f =
+    let e : length (l ++ f ∷ []) - 1 ≡ length l = omega (arith, length-append l (f ∷ [])) in
+    ap (λ n. take n (l ++ f ∷ [])) e ∙ take-append_seam l (f ∷ [])
+
+rest_is : (v : SweeperView) (l : List (ℕ × ℕ)) (f : ℕ × ℕ) → v.places.unswept ≡ l ++ f ∷ [] → rest_of v ≡ l
+rest_is v l f e = ap (λ u. take (length u - 1) u) e ∙ front l f
+
+-- the last one was taken
+module _ (s v : SweeperView) (places : PlacesView) (f : ℕ × ℕ) (e : s ≡ v)
+    (taken : s.places.unswept ≡ places.unswept ++ f ∷ []) where
+  pub is_next : IsNext v f.0 f.1
+  is_next = subst (λ (z : SweeperView). z.places.unswept ≡ rest_of z ++ f ∷ []) e
+      (taken ∙ ap (λ l. l ++ f ∷ []) (sym (rest_is s places.unswept f taken)))
+
+  pub popped : places ≡ record s.places { unswept = places.unswept } → record s { places = places } ≡ one_swept v
+  popped rest =
+      ap (λ (q : PlacesView). record s { places = q }) rest
+      ∙ ap (with_rest s) (sym (rest_is s places.unswept f taken)) ∙ ap one_swept e
+
+  -- less is left
+  pub popped_left : left_of (one_swept v) < left_of v
+  popped_left = subst (λ (z : SweeperView). left_of (one_swept z) < left_of z) e (omega (arith, one, all))
+    where
+      one : length (rest_of s) ≡ length places.unswept
+      one = ap length (rest_is s places.unswept f taken)
+
+      all : length s.places.unswept ≡ length places.unswept + 1
+      all = ap length taken ∙ length-append places.unswept (f ∷ [])
 
 -- it starts there, with the shape of its kind
 pub next_start : (v : SweeperView) (x p : ℕ) → Ready v → IsNext v x p
@@ -32,10 +58,10 @@ next_start v x p r next =
 is_some_at : (o : Option Start) (s : Start) → o ≡ Some s → IsSome o
 is_some_at o s e = subst IsSome (sym e) refl
 
-pub next_there : (s v : SweeperView) (x p : ℕ) → s ≡ v → Ready v → IsNext v x p → IsSome (start_in s.share x)
+pub next_there : (s v : SweeperView) (x p : ℕ) → s.share ≡ v.share → Ready v → IsNext v x p → IsSome (start_in s.share x)
 next_there s v x p e r next =
     let n = next_start v x p r next in
-    is_some_at (start_in s.share x) n.0 (ap (λ (z : SweeperView). start_in z.share x) e ∙ n.1)
+    is_some_at (start_in s.share x) n.0 (ap (λ (z : ShareView). start_in z x) e ∙ n.1)
 
 -- and stays as it is while its fields are handled
 pub there_same : (v u : SweeperView) (x p i : ℕ) → Ready v → IsNext v x p → IsSweptTo v u x i
@@ -63,28 +89,32 @@ length_most kind.Cell n h = omega (arith, h)
 if_there : (o : Option Start) (P : Start → Type 0) (s : Start) → o ≡ Some s → IfSome o P → P s
 if_there o P s e h = subst (λ z. IfSome z P) e h
 
-pub length_fits : (s v : SweeperView) (x p len : ℕ) → s ≡ v → Ready v → IsNext v x p
+pub length_fits : (s v : SweeperView) (x p len : ℕ) → s.share ≡ v.share → Ready v → IsNext v x p
     → IfSome (start_in s.share x) (λ y. len ≡ y.length) → len ≤ 4000000
 length_fits s v x p len e r next is =
     let n = next_start v x p r next in
-    let same : len ≡ n.0.length = if_there (start_in s.share x) (λ y. len ≡ y.length) n.0 (ap (λ (z : SweeperView). start_in z.share x) e ∙ n.1) is in
+    let same : len ≡ n.0.length = if_there (start_in s.share x) (λ y. len ≡ y.length) n.0 (ap (λ (z : ShareView). start_in z x) e ∙ n.1) is in
     let most : n.0.length ≤ 4000000 = length_most n.0.kind n.0.length n.2.has_length in
     omega (arith, same, most)
 
--- so many words of the object at x, which is of this kind, are to be looked at: no strong field is past them
-pub record IsCounted (v : SweeperView) (x : ℕ) (k : Kind) (count : ℕ) : Type 0 where
+-- of the object at x, which is of this kind, these fields are strong and no others
+pub record IsCounted (v : SweeperView) (x first end : ℕ) : Type 0 where
   pub start : Start
   pub here : start_in v.share x ≡ Some start
-  pub kind_is : start.kind ≡ k
-  pub within : count ≤ length start.words
-  pub rest : (j : ℕ) → count ≤ j → j < length start.words → is_strong start.kind j ≡ false
+  pub order : first ≤ end
+  pub within : end ≤ length start.words
+  pub strong : (j : ℕ) → first ≤ j → j < end → is_strong start.kind j ≡ true
+  pub before : (j : ℕ) → j < first → is_strong start.kind j ≡ false
+  pub after : (j : ℕ) → end ≤ j → j < length start.words → is_strong start.kind j ≡ false
 
-pub counted : (s v : SweeperView) (x p len count : ℕ) (k : Kind) → s ≡ v → Ready v → IsNext v x p
+pub counted : (s v : SweeperView) (x p len first end : ℕ) (k : Kind) → s.share ≡ v.share → Ready v → IsNext v x p
     → IfSome (start_in s.share x) (λ y. k ≡ y.kind) → IfSome (start_in s.share x) (λ y. len ≡ y.length)
-    → count ≤ words_after k len → ((i : ℕ) → count ≤ i → i < words_after k len → is_strong k i ≡ false) → IsCounted v x k count
-counted s v x p len count k e r next kind_is length_is within rest =
+    → first ≤ end → end ≤ words_after k len
+    → ((i : ℕ) → first ≤ i → i < end → is_strong k i ≡ true) → ((i : ℕ) → i < first → is_strong k i ≡ false)
+    → ((i : ℕ) → end ≤ i → i < words_after k len → is_strong k i ≡ false) → IsCounted v x first end
+counted s v x p len first end k e r next kind_is length_is order within strong before after =
     let n = next_start v x p r next in
-    let here : start_in s.share x ≡ Some n.0 = ap (λ (z : SweeperView). start_in z.share x) e ∙ n.1 in
+    let here : start_in s.share x ≡ Some n.0 = ap (λ (z : ShareView). start_in z x) e ∙ n.1 in
     let k_is : k ≡ n.0.kind = if_there (start_in s.share x) (λ y. k ≡ y.kind) n.0 here kind_is in
     let l_is : len ≡ n.0.length = if_there (start_in s.share x) (λ y. len ≡ y.length) n.0 here length_is in
     let words : words_after k len ≡ length n.0.words =
@@ -92,80 +122,94 @@ counted s v x p len count k e r next kind_is length_is within rest =
     record {
       start = n.0;
       here = n.1;
-      kind_is = sym k_is;
-      within = subst (λ z. count ≤ z) words within;
-      rest = λ j a b. ap (λ z. is_strong z j) (sym k_is) ∙ rest j a (subst (λ z. j < z) (sym words) b);
+      order = order;
+      within = subst (λ z. end ≤ z) words within;
+      strong = λ j a b. ap (λ z. is_strong z j) (sym k_is) ∙ strong j a b;
+      before = λ j a. ap (λ z. is_strong z j) (sym k_is) ∙ before j a;
+      after = λ j a b. ap (λ z. is_strong z j) (sym k_is) ∙ after j a (subst (λ z. j < z) (sym words) b);
     }
 
 some_is : (s t : Start) → Some s ≡ Some t → s ≡ t
 some_is s t e = cc
 
--- what a caller of the loop and the end of it need
-pub counted_rest : (v : SweeperView) (x count : ℕ) (k : Kind) → IsCounted v x k count → (s : Start) → start_in v.share x ≡ Some s
-    → (count ≤ length s.words) × ((j : ℕ) → count ≤ j → j < length s.words → is_strong s.kind j ≡ false)
-counted_rest v x count k c s e =
-    subst (λ (z : Start). (count ≤ length z.words) × ((j : ℕ) → count ≤ j → j < length z.words → is_strong z.kind j ≡ false))
-    (some_is c.start s (sym c.here ∙ e)) (c.within, c.rest)
+module _ (v : SweeperView) (x first end : ℕ) (c : IsCounted v x first end) where
+  -- what the end of the loop needs
+  pub counted_rest : (s : Start) → start_in v.share x ≡ Some s
+      → (end ≤ length s.words) × ((j : ℕ) → end ≤ j → j < length s.words → is_strong s.kind j ≡ false)
+  counted_rest s e =
+      subst (λ (z : Start). (end ≤ length z.words) × ((j : ℕ) → end ≤ j → j < length z.words → is_strong z.kind j ≡ false))
+      (some_is c.start s (sym c.here ∙ e)) (c.within, c.after)
 
-pub counted_within : (v : SweeperView) (x count i : ℕ) (k : Kind) → IsCounted v x k count → i < count → (s : Start)
-    → start_in v.share x ≡ Some s → i < length s.words
-counted_within v x count i k c h s e = let w : count ≤ length s.words = (counted_rest v x count k c s e).0 in omega (arith, w, h)
+  pub counted_within : (i : ℕ) → i ≤ end → (s : Start) → start_in v.share x ≡ Some s → i ≤ length s.words
+  counted_within i h s e = let w : end ≤ length s.words = (counted_rest s e).0 in omega (arith, w, h)
 
-pub field_kind : (v u : SweeperView) (x p i count : ℕ) (k : Kind) → Ready v → IsNext v x p → IsSweptTo v u x i → IsCounted v x k count
-    → (s : Start) → start_in u.share x ≡ Some s → s.kind ≡ k
-field_kind v u x p i count k r next done c s e =
-    subst (λ (z : Start). z.kind ≡ k) (some_is c.start s (sym c.here ∙ (sym (there_same v u x p i r next done) ∙ e))) c.kind_is
+  pub counted_inside : (i : ℕ) → i < end → (s : Start) → start_in v.share x ≡ Some s → i < length s.words
+  counted_inside i h s e = let w : end ≤ length s.words = (counted_rest s e).0 in omega (arith, w, h)
 
-pub field_word : (v u : SweeperView) (x p i count : ℕ) (k : Kind) → Ready v → IsNext v x p → IsSweptTo v u x i → IsCounted v x k count
-    → i < count → i < length (words_of (start_in u.share x))
-field_word v u x p i count k r next done c h =
-    let e : length (words_of (start_in u.share x)) ≡ length c.start.words =
-    ap (λ o. length (words_of o)) (there_same v u x p i r next done ∙ c.here) in
-    omega (arith, e, h, c.within)
+  -- what no strong field is asks for nothing
+  pub before_asks : (u : SweeperView) → start_in u.share x ≡ start_in v.share x → AskNothing u x 0 first
+  before_asks u same i a b =
+      ap (λ o. asked_in u.places.directory o i) (same ∙ c.here)
+      ∙ ap (λ z. if_aside u.places.directory (object_in (cond z (value_of (get_or c.start.words i 0)) None))) (c.before i b)
 
-pub copy_word : (v u : SweeperView) (x p i count : ℕ) (k : Kind) → Ready v → IsNext v x p → IsSweptTo v u x i → IsCounted v x k count
-    → i < count → i < length (words_of (start_in u.share p))
-copy_word v u x p i count k r next done c h =
+  pub counted_strong : (u : SweeperView) (from : ℕ) → start_in u.share x ≡ start_in v.share x → first ≤ from
+      → AreStrong (start_in u.share x) from end
+  counted_strong u from same h =
+      subst (λ o. AreStrong o from end) (sym (same ∙ c.here)) (λ i a b. c.strong i (omega (arith, h, a)) b)
+
+  pub counted_end : (u : SweeperView) → start_in u.share x ≡ start_in v.share x → end ≤ length (words_of (start_in u.share x))
+  counted_end u same = subst (λ o. end ≤ length (words_of o)) (sym (same ∙ c.here)) c.within
+
+pub copy_word : (v u : SweeperView) (x p i j first end : ℕ) → Ready v → IsNext v x p → IsSweptTo v u x i
+    → IsCounted v x first end → j < end → j < length (words_of (start_in u.share p))
+copy_word v u x p i j first end r next done c h =
     let a = swept_there v u x p i r next done in
     let w : length (words_of (start_in u.share p)) ≡ length a.start.words = there_words u x p a in
-    let f : i < length (words_of (start_in u.share x)) = field_word v u x p i count k r next done c h in
+    let f : end ≤ length (words_of (start_in u.share x)) = counted_end v x first end c u (there_same v u x p i r next done) in
     let s : length (words_of (start_in u.share x)) ≡ length a.start.words = ap (λ o. length (words_of o)) a.here in
-    omega (arith, w, f, s)
+    omega (arith, w, f, s, h)
 
 -- ---- what a field leaves
 
 pub record IsLeft (u u' : SweeperView) : Type 0 where
-  pub swept : u'.swept ≡ u.swept
+  pub left : left_of u' ≡ left_of u
   pub inbox : u'.inbox ≡ u.inbox
   pub directory : u'.places.directory ≡ u.places.directory
 
 kept_left : (u mid : SweeperView) (t q : ℕ) → IsKept u mid t q → IsLeft u mid
 kept_left u mid t q (WasKept pair same) = record {
-  swept = ap (λ (z : SweeperView). z.swept) same;
+  left = ap left_of same;
   inbox = ap (λ (z : SweeperView). z.inbox) same;
   directory = ap (λ (z : SweeperView). z.places.directory) same;
 }
 kept_left u mid t q (IsKeptNow c) = record {
-  swept = c.copied.swept;
+  left = omega (arith, c.few, own, unswept);
   inbox = c.copied.inbox;
   directory = c.steady.directory;
 }
+  where
+    own : length mid.places.own ≡ length u.places.own + 1
+    own = ap length c.copied.own ∙ length-append u.places.own ((t, q) ∷ [])
+
+    unswept : length mid.places.unswept ≡ length u.places.unswept + 1
+    unswept = ap length c.copied.unswept ∙ length-append u.places.unswept ((t, q) ∷ [])
 
 pub field_left : (u u' : SweeperView) (x p i : ℕ) → FieldDone u u' x p i → IsLeft u u'
 field_left u u' x p i (IsPlain none same) = record {
-  swept = ap (λ (z : SweeperView). z.swept) same;
+  left = ap left_of same;
   inbox = ap (λ (z : SweeperView). z.inbox) same;
   directory = ap (λ (z : SweeperView). z.places.directory) same;
 }
 field_left u u' x p i (IsOwn t q mid c asked kept put) =
     let k = kept_left u mid t q kept in
     record {
-      swept = put.put.swept ∙ k.swept;
+      left = ap (λ n. 2 ^ 64 - n + length u'.places.unswept) (ap length put.put.own)
+          ∙ ap (λ n. 2 ^ 64 - length mid.places.own + n) (ap length put.put.unswept) ∙ k.left;
       inbox = put.put.inbox ∙ k.inbox;
       directory = put.steady.directory ∙ k.directory;
     }
 field_left u u' x p i (IsForeign t asked other same) = record {
-  swept = ap (λ (z : SweeperView). z.swept) same;
+  left = ap left_of same;
   inbox = ap (λ (z : SweeperView). z.inbox) same;
   directory = ap (λ (z : SweeperView). z.places.directory) same;
 }

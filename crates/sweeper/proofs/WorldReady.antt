@@ -154,17 +154,22 @@ went_on world w told a b c s t u f g = record {
 
 -- ---- mail and sweeping
 
--- another count of what is swept, and other mail
-module _ (world : World) (v : SweeperView) (swept : ℕ) (inbox outbox : List Message) (ready : IsReadyIn world v) where
-  pub mailed_steady : IsSteady v (record v { swept = swept; inbox = inbox; outbox = outbox })
-  mailed_steady = steady_same v (record v { swept = swept; inbox = inbox; outbox = outbox }) refl refl refl refl refl
+-- other objects unswept, and other mail
+abbrev pub mailed : SweeperView → List (ℕ × ℕ) → List Message → List Message → SweeperView
+mailed v unswept inbox outbox =
+    record v { places = record v.places { unswept = unswept }; inbox = inbox; outbox = outbox }
 
-  pub mailed_ready : Tied world (hand_of (record v { swept = swept; inbox = inbox; outbox = outbox }))
+module _ (world : World) (v : SweeperView) (unswept : List (ℕ × ℕ)) (inbox outbox : List Message)
+    (ready : IsReadyIn world v) where
+  pub mailed_steady : IsSteady v (mailed v unswept inbox outbox)
+  mailed_steady = steady_same v (mailed v unswept inbox outbox) refl refl refl refl refl refl
+
+  pub mailed_ready : Tied world (hand_of (mailed v unswept inbox outbox))
       → ((m : Message) → Contains inbox m → MayCome world (hand_of v) m)
       → ((m : Message) → Contains outbox m → MayGo world (hand_of v) m)
-      → IsReadyIn world (record v { swept = swept; inbox = inbox; outbox = outbox })
+      → IsReadyIn world (mailed v unswept inbox outbox)
   mailed_ready tied comes goes =
-      let v' : SweeperView = record v { swept = swept; inbox = inbox; outbox = outbox } in
+      let v' : SweeperView = mailed v unswept inbox outbox in
       record {
         is_world = ready.is_world;
         joined = joined_on v v' ready.joined mailed_steady;
@@ -182,7 +187,7 @@ module _ (world : World) (v : SweeperView) (swept : ℕ) (inbox outbox : List Me
 pub sent_ready : (world : World) (v : SweeperView) (m : Message) → IsReadyIn world v → MayGo world (hand_of v) m
     → IsReadyIn world (sends v m)
 sent_ready world v m ready may =
-    mailed_ready world v v.swept v.inbox (v.outbox ++ m ∷ []) ready
+    mailed_ready world v v.places.unswept v.inbox (v.outbox ++ m ∷ []) ready
     (mail_keeps_tied world (hand_of v) v.inbox (v.outbox ++ m ∷ []) ready.ready.tied)
     ready.ready.comes
     (λ n c. elim (Contains-push_cases v.outbox m n c) [
@@ -194,7 +199,7 @@ pub sent_follows : (world : World) (told : List Message) (v : SweeperView) (m : 
     → MayGo world (hand_of v) m → Follows world told v (sends v m)
 sent_follows world told v m ready may = record {
   ready = sent_ready world v m ready may;
-  steady = mailed_steady world v v.swept v.inbox (v.outbox ++ m ∷ []) ready;
+  steady = mailed_steady world v v.places.unswept v.inbox (v.outbox ++ m ∷ []) ready;
   inbox = λ n c. c;
   own = λ x q c. c;
   cards = λ ordered g agrees sound. sound;
@@ -205,7 +210,7 @@ pub popped_ready : (world : World) (v : SweeperView) (m : Message) (ms : List Me
     → IsReadyIn world v
     → IsReadyIn world (record v { inbox = ms }) × MayCome world (hand_of (record v { inbox = ms })) m
 popped_ready world v m ms is ready = (
-  mailed_ready world v v.swept ms v.outbox ready (mail_keeps_tied world (hand_of v) ms v.outbox ready.ready.tied)
+  mailed_ready world v v.places.unswept ms v.outbox ready (mail_keeps_tied world (hand_of v) ms v.outbox ready.ready.tied)
       (λ n c. ready.ready.comes n (rw is (contains_there m ms n c)))
       ready.ready.goes,
   may_come_on world (hand_of v) (hand_of (record v { inbox = ms })) refl (λ x q e. e) m
@@ -216,25 +221,28 @@ pub popped_follows : (world : World) (told : List Message) (v : SweeperView) (m 
     → v.inbox ≡ m ∷ ms → IsReadyIn world v → Follows world told v (record v { inbox = ms })
 popped_follows world told v m ms is ready = record {
   ready = (popped_ready world v m ms is ready).0;
-  steady = mailed_steady world v v.swept ms v.outbox ready;
+  steady = mailed_steady world v v.places.unswept ms v.outbox ready;
   inbox = λ n c. rw is (contains_there m ms n c);
   own = λ x q c. c;
   cards = λ ordered g agrees sound. sound;
 }
 
--- one object more is swept
-pub swept_ready : (world : World) (v : SweeperView) → IsReadyIn world v → v.swept < length v.places.own
-    → IsReadyIn world (record v { swept = v.swept + 1 })
-swept_ready world v ready left =
-    mailed_ready world v (v.swept + 1) v.inbox v.outbox ready
-    (sweep_keeps_tied world (hand_of v) ready.ready.tied left)
+-- one object fewer is unswept
+abbrev pub with_rest : SweeperView → List (ℕ × ℕ) → SweeperView
+with_rest v rest = record v { places = record v.places { unswept = rest } }
+
+pub swept_ready : (world : World) (v : SweeperView) (rest : List (ℕ × ℕ)) (x p : ℕ) → IsReadyIn world v
+    → v.places.unswept ≡ rest ++ (x, p) ∷ [] → IsReadyIn world (with_rest v rest)
+swept_ready world v rest x p ready is =
+    mailed_ready world v rest v.inbox v.outbox ready
+    (sweep_keeps_tied world (hand_of v) rest x p ready.ready.tied is)
     ready.ready.comes ready.ready.goes
 
-pub swept_follows : (world : World) (told : List Message) (v : SweeperView) → IsReadyIn world v
-    → v.swept < length v.places.own → Follows world told v (record v { swept = v.swept + 1 })
-swept_follows world told v ready left = record {
-  ready = swept_ready world v ready left;
-  steady = mailed_steady world v (v.swept + 1) v.inbox v.outbox ready;
+pub swept_follows : (world : World) (told : List Message) (v : SweeperView) (rest : List (ℕ × ℕ)) (x p : ℕ)
+    → IsReadyIn world v → v.places.unswept ≡ rest ++ (x, p) ∷ [] → Follows world told v (with_rest v rest)
+swept_follows world told v rest x p ready is = record {
+  ready = swept_ready world v rest x p ready is;
+  steady = mailed_steady world v rest v.inbox v.outbox ready;
   inbox = λ n c. c;
   own = λ x q c. c;
   cards = λ ordered g agrees sound. sound;

@@ -44,13 +44,14 @@ steady_itself v = record {
   ran_out = refl;
 }
 
--- what has the same share, registers and places
-pub steady_same : (a b : SweeperView) → b.share ≡ a.share → b.places ≡ a.places → b.registers ≡ a.registers
+-- what has the same share and registers, and places of the same sweeper and directory
+pub steady_same : (a b : SweeperView) → b.share ≡ a.share → b.places.number ≡ a.places.number
+    → b.places.directory ≡ a.places.directory → b.registers ≡ a.registers
     → b.round ≡ a.round → b.ran_out ≡ a.ran_out → IsSteady a b
-steady_same a b share places registers round ran_out = record {
+steady_same a b share number directory registers round ran_out = record {
   alike = subst (IsAlike a.share) (sym share) (alike_itself a.share);
-  number = ap (λ (p : PlacesView). p.number) places;
-  directory = ap (λ (p : PlacesView). p.directory) places;
+  number = number;
+  directory = directory;
   registers = ap (λ (r : RegistersView). r.number) registers;
   register_count = ap (λ (r : RegistersView). r.sweepers) registers;
   round = round;

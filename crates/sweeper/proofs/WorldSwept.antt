@@ -1,6 +1,6 @@
 -- The fields of a forwarded object are handled one after the other.
-use Rattle.std.proofs.Common.{◌≡◌, ◌≢◌, ℕ, zero, suc, ◌+◌, ◌-◌, ◌%◌, ◌<◌, ◌≤◌, true, false, cond, List, [], ◌∷◌, length, get_or, Contains, None, Some, refl, sym, ap, subst, ◌∙◌, inl, inr, arith}
-use Rattle.std.proofs.lemmas.List.Elements.{Contains-get_or}
+use Rattle.std.proofs.Common.{◌≡◌, ◌≢◌, ℕ, zero, suc, ◌+◌, ◌-◌, ◌%◌, ◌<◌, ◌≤◌, true, false, cond, List, [], ◌∷◌, ◌++◌, take, length, get_or, Contains, None, Some, refl, sym, ap, subst, ◌∙◌, inl, inr, arith}
+use Rattle.std.proofs.lemmas.List.Elements.{Contains-push}
 use Rattle.gc_words.specs.Layout.{thread_of}
 use Rattle.gc_words.specs.Word.{value_of}
 use Rattle.segment.specs.Segments.{Start}
@@ -14,7 +14,6 @@ use Rattle.owned_core.specs.Settings.{Setting}
 use Rattle.territory.specs.Finishing.{target_of}
 use Rattle.sweep_model.specs.World.{World, asks, if_collected, is_collected, is_strong, object_in, strong_value}
 use Rattle.sweep_model.specs.Settings.{IsSettingOf}
-use Rattle.sweep_model.specs.Hands.{forwarded_at}
 use Rattle.sweep_model.specs.Holding.{Goes, in_standing, news_from, out_standing}
 use Rattle.sweep_model.proofs.Ages.{collected_start}
 use Rattle.sweep_model.proofs.Asking.{ask_goes}
@@ -23,10 +22,10 @@ use Rattle.sweep_model.proofs.Fixing.{answer_fixes}
 use Rattle.sweep_model.proofs.Going.{goes_none, goes_on}
 use Rattle.sweep_model.proofs.Sweeping.{sweep_goes}
 use Rattle.sweep_share.specs.Shares.{start_in}
-use Rattle.sweeper.specs.Sweepers.{CanKeep, FieldDone, IsForeign, IsOwn, IsPlain, SweeperView, asked_in, hand_of, sends}
+use Rattle.sweeper.specs.Sweepers.{AskNothing, CanKeep, FieldDone, IsForeign, IsOwn, IsPlain, SweeperView, asked_in, hand_of, sends}
 use Rattle.sweeper.specs.Ready.{IsReadyIn, Ready, Runs, Went}
 use Rattle.sweeper.proofs.WorldKept.{can_keep, can_keep_start, keep_least, kept_ready}
-use Rattle.sweeper.proofs.WorldReady.{follows_none, follows_on, sent_follows, swept_follows, went_on}
+use Rattle.sweeper.proofs.WorldReady.{follows_none, follows_on, sent_follows, swept_follows, swept_ready, went_on, with_rest}
 use Rattle.sweeper.proofs.WorldTold.{asked_is, words_at}
 use Rattle.sweeper.proofs.WorldWritten.{put_ready}
 
@@ -98,13 +97,17 @@ module _ (world : World) (w : Setting) (told : List Message) (x p i n : ℕ) (s 
 
 -- ---- all fields
 
+-- what is unswept but for the last
+abbrev pub rest_of : SweeperView → List (ℕ × ℕ)
+rest_of v = take (length v.places.unswept - 1) v.places.unswept
+
+-- the last one is taken
 abbrev pub one_swept : SweeperView → SweeperView
-one_swept v = record v { swept = v.swept + 1 }
+one_swept v = with_rest v (rest_of v)
 
 -- the object that is swept next
-pub record IsNext (v : SweeperView) (x p : ℕ) : Type 0 where
-  pub left : v.swept < length v.places.own
-  pub is : forwarded_at v.places.own v.swept ≡ (x, p)
+abbrev pub IsNext : SweeperView → ℕ → ℕ → Type 0
+IsNext v x p = v.places.unswept ≡ rest_of v ++ (x, p) ∷ []
 
 -- its fields up to i are handled
 abbrev pub IsSweptTo : SweeperView → SweeperView → ℕ → ℕ → Type 0
@@ -113,15 +116,18 @@ IsSweptTo v u x i =
     → Went world w v.inbox (one_swept v) u (news_from world w x 0 (length s.words))
     (news_from world w x i (length s.words - i))
 
-pub next_pair : (v : SweeperView) (x p : ℕ) → IsNext v x p → Contains v.places.own (x, p)
-next_pair v x p next = subst (Contains v.places.own) next.is (Contains-get_or v.places.own v.swept (0, 0) next.left)
+pub next_pair : (world : World) (v : SweeperView) (x p : ℕ) → IsReadyIn world v → IsNext v x p
+    → Contains v.places.own (x, p)
+next_pair world v x p ready next =
+    ready.ready.tied.unswept_in x p
+    (subst (λ l. Contains l (x, p)) (sym next) (Contains-push (rest_of v) (x, p)))
 
 -- what is known of it
 pub next_is : (world : World) (v : SweeperView) (x p : ℕ) → IsReadyIn world v → IsNext v x p
     → (s : Start) × (world.image x ≡ Some s) × (is_collected world x ≡ true)
     × (owner world.sweepers x ≡ v.share.number) × (start_in v.share x ≡ Some s)
 next_is world v x p ready next =
-    let m = ready.ready.tied.mine x p (next_pair v x p next) in
+    let m = ready.ready.tied.mine x p (next_pair world v x p ready next) in
     let s = collected_start world x m.1 in
     (s.0, s.1, m.1, m.0, ready.ready.tied.frozen x s.0 s.1 m.0 m.1)
 
@@ -132,7 +138,7 @@ swept_to_none v x p next world w s setting ready was =
     subst (λ n. Went world w v.inbox (one_swept v) (one_swept v) (news_from world w x 0 (length s.words))
     (news_from world w x 0 n)) e
     (record {
-      follows = follows_none world v.inbox (one_swept v) (swept_follows world v.inbox v ready next.left).ready;
+      follows = follows_none world v.inbox (one_swept v) (swept_ready world v (rest_of v) x p ready next);
       goes = goes_none world w (hand_of (one_swept v)) (news_from world w x 0 (length s.words));
     })
 
@@ -140,7 +146,8 @@ swept_to_none v x p next world w s setting ready was =
 pub swept_to_more : (v u u' : SweeperView) (x p i : ℕ) → IsNext v x p → IsSweptTo v u x i
     → ((s : Start) → start_in v.share x ≡ Some s → i < length s.words) → FieldDone u u' x p i → IsSweptTo v u' x (i + 1)
 swept_to_more v u u' x p i next before within done world w s setting ready was =
-    let m = ready.ready.tied.mine x p (next_pair v x p next) in
+    let pair = next_pair world v x p ready next in
+    let m = ready.ready.tied.mine x p pair in
     let k : i < length s.words = within s (ready.ready.tied.frozen x s was m.0 m.1) in
     let e : length s.words - i ≡ suc (length s.words - (i + 1)) = omega arith in
     let one = before world w s setting ready was in
@@ -150,7 +157,31 @@ swept_to_more v u u' x p i next before within done world w s setting ready was =
     (subst (λ n. Went world w v.inbox u u' (news_from world w x i n) (news_from world w x (i + 1) (length s.words - (i + 1))))
     (sym e)
     (field_went world w v.inbox x p i (length s.words - (i + 1)) s setting was m.1 u u' f.ready
-    (m.0 ∙ sym f.steady.alike.number) (f.own x p (next_pair v x p next)) done))
+    (m.0 ∙ sym f.steady.alike.number) (f.own x p pair) done))
+
+-- n more that ask for nothing
+pub swept_to_later : (v u : SweeperView) (x p i n : ℕ) → IsNext v x p → IsSweptTo v u x i
+    → ((s : Start) → start_in v.share x ≡ Some s → i + n ≤ length s.words) → AskNothing u x i (i + n)
+    → IsSweptTo v u x (i + n)
+swept_to_later v u x p i zero next done within none = subst (IsSweptTo v u x) (omega arith) done
+swept_to_later v u x p i (suc n) next done within none =
+    let more : i + 1 + n ≡ i + suc n = omega arith in
+    subst (IsSweptTo v u x) more
+    (swept_to_later v u x p (i + 1) n next
+    (swept_to_more v u u x p i next done (λ s is. let k = within s is in omega (arith, k))
+    (IsPlain (none i (omega arith) (omega arith)) refl))
+    (λ s is. let k = within s is in omega (arith, k))
+    (λ j a b. none j (omega (arith, a)) (omega (arith, b))))
+
+-- ... up to the next that does, or to the end
+pub swept_up_to : (v u : SweeperView) (x p i j : ℕ) → IsNext v x p → IsSweptTo v u x i → i ≤ j
+    → ((s : Start) → start_in v.share x ≡ Some s → j ≤ length s.words) → AskNothing u x i j → IsSweptTo v u x j
+swept_up_to v u x p i j next done order within none =
+    let e : i + (j - i) ≡ j = omega (arith, order) in
+    subst (IsSweptTo v u x) e
+    (swept_to_later v u x p i (j - i) next done
+    (λ s is. let k : j ≤ length s.words = within s is in omega (arith, k, e))
+    (λ k a b. none k a (omega (arith, b, e))))
 
 -- fields that ask for nothing have no slots
 news_nothing : (world : World) (w : Setting) (x i n : ℕ)
@@ -182,10 +213,11 @@ swept_runs v u x p count next done rest world w setting ready =
     news_nothing world w x count (length s.0.words - count)
     (λ j a b. plain_asks world x j s.0 s.1 (r.1 j a (omega (arith, a, b, most)))) in
     record {
-      follows = follows_on world v.inbox v (one_swept v) u (swept_follows world v.inbox v ready next.left) went.follows;
+      follows = follows_on world v.inbox v (one_swept v) u (swept_follows world v.inbox v (rest_of v) x p ready next)
+          went.follows;
       goes = goes_on world w (hand_of v) (hand_of (one_swept v)) (hand_of u) [] (news_from world w x 0 (length s.0.words)) []
           refl
-          (sweep_goes world w (hand_of v) x p s.0 ready.is_world setting ready.ready.tied next.left next.is s.1)
+          (sweep_goes world w (hand_of v) (rest_of v) x p s.0 ready.is_world setting ready.ready.tied next s.1)
           (subst (λ l. Goes world w (hand_of (one_swept v)) (news_from world w x 0 (length s.0.words)) (hand_of u) l)
           none went.goes);
     }
@@ -215,7 +247,7 @@ swept_there v u x p i r next done =
       was = s.1;
       mine = mine;
       young = s.2;
-      pair = f.own x p (next_pair v x p next);
+      pair = f.own x p (next_pair r.0 v x p r.3 next);
       here = f.ready.ready.tied.frozen x s.0 s.1 mine s.2;
     }
 

@@ -1,5 +1,5 @@
 -- What contracts see of a sweeper, and what its steps change.
-use Rattle.std.specs.Prelude.{◌≡◌, ◌≢◌, ℕ, ◌<◌, ◌≤◌, Bool, false, List, [], ◌∷◌, ◌++◌, length, is_some, if◌then◌else◌, Option, None, Some, IsSome, Contains, ◌⊎◌}
+use Rattle.std.specs.Prelude.{◌≡◌, ◌≢◌, ℕ, ◌+◌, ◌-◌, ◌^◌, ◌<◌, ◌≤◌, Bool, false, List, [], ◌∷◌, ◌++◌, length, is_some, if◌then◌else◌, Option, None, Some, IsSome, Contains, ◌⊎◌}
 use Rattle.gc_words.specs.declared.value.Value.TheVariants as value
 use Rattle.gc_words.specs.Word.{value_of}
 use Rattle.segment.specs.Segments.{Start}
@@ -13,19 +13,18 @@ use Rattle.gc_mail.specs.Recipients.{owner}
 use Rattle.directory.specs.declared.table.FromSegment.{FromSegment}
 use Rattle.territory.specs.Finishing.{target_of}
 use Rattle.directory.specs.Directories.{DirectoryView, IsCollected, from_at, sweeper_count}
-use Rattle.sweep_model.specs.World.{object_in, strong_value}
+use Rattle.sweep_model.specs.World.{is_strong, object_in, strong_value}
 use Rattle.sweep_model.specs.Hands.{Hand, IsCopiedNow, IsPutAt, IsRegisterSet}
 use Rattle.sweep_share.specs.Shares.{AreSound, IsAlike, ShareView, is_aside, start_in}
 use Rattle.sweep_share.specs.Registers.{RegistersView, register_in}
 use Rattle.sweep_places.specs.Places.{IsOwnStart, PlacesView}
 
--- The territories and registers that it serves; the places of its objects, in the order of forwarding, and how many of
--- them are swept; its mail; which round comes next, and whether a round ran out of memory.
+-- The territories and registers that it serves; the places of its objects, in the order of forwarding, and which of them
+-- are not swept; its mail; which round comes next, and whether a round ran out of memory.
 pub record SweeperView : Type 0 where
   pub share : ShareView
   pub registers : RegistersView
   pub places : PlacesView
-  pub swept : ℕ
   pub inbox : List Message
   pub outbox : List Message
   pub round : ℕ
@@ -44,7 +43,7 @@ hand_of v = record {
   number = v.share.number;
   now = start_in v.share;
   own = v.places.own;
-  swept = v.swept;
+  unswept = v.places.unswept;
   register = register_in v.registers;
   inbox = v.inbox;
   outbox = v.outbox;
@@ -58,6 +57,24 @@ if_aside d (Some t) = if is_some (from_at d t) then Some t else None
 
 abbrev pub asked_in : DirectoryView → Option Start → ℕ → Option ℕ
 asked_in d start i = if_aside d (object_in (strong_value start i))
+
+-- the same of a word that is a strong field
+abbrev pub asked_by : DirectoryView → ℕ → Option ℕ
+asked_by d word = if_aside d (object_in (value_of word))
+
+-- the fields from one on and before another are strong
+abbrev pub AreStrong : Option Start → ℕ → ℕ → Type 0
+AreStrong None from end = Unit {0}
+AreStrong (Some s) from end = (i : ℕ) → from ≤ i → i < end → is_strong s.kind i ≡ true
+
+-- the fields of x from one on and before another ask for nothing
+abbrev pub AskNothing : SweeperView → ℕ → ℕ → ℕ → Type 0
+AskNothing v x from end =
+    (i : ℕ) → from ≤ i → i < end → asked_in v.places.directory (start_in v.share x) i ≡ None
+
+-- how much sweeping may be left: what may be forwarded yet, and what is unswept
+abbrev pub left_of : SweeperView → ℕ
+left_of v = 2 ^ 64 - length v.places.own + length v.places.unswept
 
 -- ---- steps
 
@@ -81,10 +98,16 @@ pub record CanKeep (v : SweeperView) (x : ℕ) : Type 0 where
   pub same : from.generation ≡ start.generation
   pub young : start.generation ≤ v.places.directory.targets.cg
 
+-- what starts at x goes to this generation
+abbrev pub GoesTo : SweeperView → ℕ → ℕ → Type 0
+GoesTo v x generation =
+    (s : Start) → start_in v.share x ≡ Some s → generation ≡ target_of v.places.directory.targets s.generation
+
 -- x was copied to q
 pub record Copies (old new : SweeperView) (x q : ℕ) : Type 0 where
   pub steady : IsSteady old new
   pub copied : IsCopiedNow old.places.directory.targets (hand_of old) (hand_of new) x q
+  pub few : length new.places.own < 2 ^ 64
   pub stays : is_aside new.share q ≡ false
   pub sound : (generation_at : ℕ → Option ℕ) (s : Start) → start_in old.share x ≡ Some s
       → RefersToNoneBelow generation_at s (target_of old.places.directory.targets s.generation)

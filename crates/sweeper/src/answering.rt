@@ -28,9 +28,12 @@ impl Sweeper {
         requires word { holder_of self.old.share.sweepers back.now ≡ self.old.share.number → HasWord self.old back.now }
         ensures { OnOk result (Answered self.old self.new target back.now) }
     {
-        let place = self.keep(target, directory)?;
+        let Some(found) = directory.find(target) else {
+            unreachable!()
+        };
+        let refers = directory.target(found.generation);
+        let place = self.keep(target, found.word, refers)?;
         if holder(back, directory.sweepers()) == self.share.number() {
-            let refers = directory.target(directory.generation(target));
             self.write(back, place, refers, directory);
             return Ok(());
         }

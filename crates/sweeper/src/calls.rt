@@ -42,7 +42,7 @@ impl Sweeper {
     pub fn forwarded(&self) -> u64
         ensures { result ≡ length self.now.places.own }
     {
-        self.places.len() as u64
+        self.places.len()
     }
 
     /// Takes its messages, to be exchanged; the outbox is empty then. Takes no memory.
@@ -77,7 +77,7 @@ impl Sweeper {
         requires own { IsOwnStart directory.now self.now.places.number at }
         ensures { MatchOption result (IsAbsent self.now.places.own at) (λ place. Contains self.now.places.own (at, place)) }
     {
-        self.places.place_of(at, directory)
+        self.places.place_of(at, directory.word_of(at))
     }
 
     /// Ends the collection in its territories: the from-segments are given back with all that was not forwarded, and the

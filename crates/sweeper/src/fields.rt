@@ -1,17 +1,17 @@
 //! The fields of a forwarded object.
 
-ghost use Rattle.std.specs.Prelude.{◌≡◌, ◌≢◌, ℕ, ◌<◌, ◌≤◌, ◌↔◌, false, Some, IsTrue, OnOk, length};
+ghost use Rattle.std.specs.Prelude.{◌≡◌, ◌⊎◌, ℕ, ◌^◌, ◌<◌, ◌≤◌, ◌↔◌, false, true, None, Some, IfNone, IfSome, IsTrue, OnOk, length, slice_index};
 ghost use Rattle.segment.specs.Layout.{words_after};
-ghost use Rattle.segment.specs.Segments.{Start};
-ghost use Rattle.territory.specs.Territories.{words_of};
+ghost use Rattle.directory.specs.Directories.{found_at};
 ghost use Rattle.gc_mail.specs.Recipients.{owner};
-ghost use Rattle.sweep_model.specs.World.{is_strong, object_in};
 ghost use Rattle.gc_words.specs.Word.{value_of};
+ghost use Rattle.territory.specs.Territories.{words_of};
+ghost use Rattle.sweep_model.specs.World.{is_strong, object_in};
 ghost use Rattle.sweep_share.specs.Shares.{start_in};
-ghost use Rattle.sweeper.specs.Sweepers.{CanKeep, FieldDone, asked_in};
+ghost use Rattle.sweeper.specs.Sweepers.{CanKeep, FieldDone, asked_by, asked_in};
 
 use crate::Sweeper;
-use directory::Directory;
+use directory::{Directory, Found};
 use gc_mail::{Message, Slot};
 use gc_words::{Address, Value, decode};
 use std::alloc::AllocError;
@@ -29,22 +29,28 @@ pub(crate) fn is_strong(kind: Kind, index: u32) -> bool
     }
 }
 
-/// How many words of an object there are to look at for strong fields: none of bytes, else all.
-pub(crate) fn fields_to_sweep(kind: Kind, length: u32) -> u32
+/// The strong fields of an object: they begin at the first number, and end before the second.
+#[inline(always)]
+pub(crate) fn strong_fields(kind: Kind, length: u32) -> (u32, u32)
     requires { length ≤ 4000000 }
-    ensures within { result ≤ words_after kind length }
-    ensures rest { (i : ℕ) → result ≤ i → i < words_after kind length → is_strong kind i ≡ false }
+    ensures order { result.0 ≤ result.1 }
+    ensures within { result.1 ≤ words_after kind length }
+    ensures strong { (i : ℕ) → result.0 ≤ i → i < result.1 → is_strong kind i ≡ true }
+    ensures before { (i : ℕ) → i < result.0 → is_strong kind i ≡ false }
+    ensures after { (i : ℕ) → result.1 ≤ i → i < words_after kind length → is_strong kind i ≡ false }
 {
     match kind {
-        Kind::Boxed => 1,
-        Kind::Vector | Kind::ImmVector => length,
-        Kind::Eph | Kind::Bytes | Kind::ImmBytes => 0,
-        Kind::Guard | Kind::OrderedGuard => 3,
-        Kind::Pair | Kind::Weak | Kind::Cell => 2,
+        Kind::Pair | Kind::Cell => (0, 2),
+        Kind::Weak => (1, 2),
+        Kind::Boxed => (0, 1),
+        Kind::Vector | Kind::ImmVector => (0, length),
+        Kind::Guard | Kind::OrderedGuard => (0, 3),
+        Kind::Eph | Kind::Bytes | Kind::ImmBytes => (0, 0),
     }
 }
 
 /// The object to which a word refers.
+#[inline(always)]
 pub(crate) fn referred(word: u64) -> Option<Address>
     ensures { result ≡ object_in (value_of word) }
 {
@@ -54,44 +60,78 @@ pub(crate) fn referred(word: u64) -> Option<Address>
     }
 }
 
+/// A field that refers to a collected object, and what the directory tells of that.
+#[derive(Clone, Copy)]
+pub(crate) struct Asked {
+    pub index: u32,
+    pub target: Address,
+    pub found: Found,
+}
+
+/// The first of these words, from one on and before another, that refers to a collected object.
+#[inline(always)]
+pub(crate) fn first_asked(
+    words: &[u64],
+    from: u32,
+    end: u32,
+    directory: &Directory,
+) -> Option<Asked>
+    requires { end ≤ length words.now }
+    ensures within { IfSome result (λ a. (from ≤ a.index) × (a.index < end)) }
+    ensures target { IfSome result (λ a. asked_by directory.now (slice_index words.now a.index) ≡ Some a.target) }
+    ensures found { IfSome result (λ a. found_at directory.now a.target ≡ Some a.found) }
+    ensures first { IfSome result (λ a. (i : ℕ) → from ≤ i → i < a.index
+        → asked_by directory.now (slice_index words.now i) ≡ None) }
+    ensures none { IfNone result ((i : ℕ) → from ≤ i → i < end
+        → asked_by directory.now (slice_index words.now i) ≡ None) }
+{
+    for index in from..end {
+        if let Some(target) = referred(words[index as usize]) {
+            if let Some(found) = directory.find(target) {
+                return Some(Asked {
+                    index,
+                    target,
+                    found,
+                });
+            }
+        }
+    }
+    None
+}
+
 impl Sweeper {
-    /// Handles one field of an object that was forwarded: where it refers to an object of its own, that is kept and its
-    /// place put into the copy; where it refers to another sweeper's, that one is asked.
+    /// Handles a field of a forwarded object that refers to a collected one: an object of its own is kept and its place
+    /// put into the copy, and another sweeper is asked for one of its own.
+    #[inline(always)]
     pub(crate) fn sweep_field(
         &mut self,
-        kind: Kind,
         object: Address,
         copy: Address,
-        index: u32,
+        asked: Asked,
         directory: &Directory,
     ) -> Result<(), AllocError>
         requires same { self.old.places.directory ≡ directory.now }
-        requires kind_is { (s : Start) → start_in self.old.share object ≡ Some s → s.kind ≡ kind }
-        requires word { index < length (words_of (start_in self.old.share object)) }
-        requires field { index < length (words_of (start_in self.old.share copy)) }
-        requires own { (t : ℕ) → asked_in self.old.places.directory (start_in self.old.share object) index ≡ Some t
-            → owner self.old.share.sweepers t ≡ self.old.share.number → CanKeep self.old t }
-        ensures { OnOk result (FieldDone self.old self.new object copy index) }
+        requires target { asked_in self.old.places.directory (start_in self.old.share object) asked.index
+            ≡ Some asked.target }
+        requires found { found_at directory.now asked.target ≡ Some asked.found }
+        requires field { asked.index < length (words_of (start_in self.old.share copy)) }
+        requires own { owner self.old.share.sweepers asked.target ≡ self.old.share.number
+            → CanKeep self.old asked.target }
+        ensures { OnOk result (FieldDone self.old self.new object copy asked.index) }
     {
-        if !is_strong(kind, index) {
+        if !self.share.is_own(asked.target) {
+            self.outbox.send(Message::Forward {
+                target: asked.target,
+                back: Slot::Field {
+                    object,
+                    index: asked.index,
+                },
+            })?;
             return Ok(());
         }
-        let Some(target) = referred(self.share.word(object, index)) else {
-            return Ok(());
-        };
-        if !directory.collected(target) {
-            return Ok(());
-        }
-        if self.share.is_own(target) {
-            let place = self.keep(target, directory)?;
-            let refers = directory.target(directory.generation(target));
-            self.put(copy, index, place, refers);
-            return Ok(());
-        }
-        self.outbox.send(Message::Forward {
-            target,
-            back: Slot::Field { object, index },
-        })?;
+        let refers = directory.target(asked.found.generation);
+        let place = self.keep(asked.target, asked.found.word, refers)?;
+        self.put(copy, asked.index, place, refers);
         Ok(())
     }
 }

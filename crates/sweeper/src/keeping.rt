@@ -1,10 +1,11 @@
 //! The objects of a sweeper's own are kept, and places are written.
 
-ghost use Rattle.std.specs.Prelude.{◌≡◌, ◌<◌, IfOk, length};
+ghost use Rattle.std.specs.Prelude.{◌≡◌, ◌<◌, ◌≤◌, IfOk, length};
 ghost use Rattle.territory.specs.Territories.{words_of};
+ghost use Rattle.directory.specs.Directories.{word_in};
 ghost use Rattle.sweep_model.specs.Hands.{IsAbsent};
 ghost use Rattle.sweep_share.specs.Shares.{start_in};
-ghost use Rattle.sweeper.specs.Sweepers.{CanKeep, Copies, HasField, HasWord, IsAtIn, IsKept, Puts, Writes};
+ghost use Rattle.sweeper.specs.Sweepers.{CanKeep, Copies, GoesTo, HasField, HasWord, IsAtIn, IsKept, Puts, Writes};
 
 use crate::Sweeper;
 use directory::Directory;
@@ -13,36 +14,49 @@ use gc_words::{Address, Value, encode};
 use std::alloc::AllocError;
 
 impl Sweeper {
-    /// The place of an object of its own, which is copied where it has none yet.
+    /// The place of an object of its own, which is copied where it has none yet. `word` is the object's word in the
+    /// directory, and `generation` the one to which it goes: who asks has looked both up.
+    #[inline(always)]
     pub(crate) fn keep(
         &mut self,
         target: Address,
-        directory: &Directory,
+        word: usize,
+        generation: u8,
     ) -> Result<Address, AllocError>
-        requires same { self.old.places.directory ≡ directory.now }
         requires may { CanKeep self.old target }
+        requires word_is { word ≡ word_in self.old.places.directory target }
+        requires goes { GoesTo self.old target generation }
+        requires generation_in { generation ≤ 8 }
         ensures { IfOk result (λ place. IsKept self.old self.new target place) }
     {
-        match self.places.place_of(target, directory) {
+        match self.places.place_of(target, word) {
             Some(place) => Ok(place),
-            None => self.copy(target, directory),
+            None => self.copy(target, word, generation),
         }
     }
 
     /// Copies an object of its own, which has no place yet.
-    fn copy(&mut self, target: Address, directory: &Directory) -> Result<Address, AllocError>
-        requires same { self.old.places.directory ≡ directory.now }
+    #[inline(always)]
+    fn copy(
+        &mut self,
+        target: Address,
+        word: usize,
+        generation: u8,
+    ) -> Result<Address, AllocError>
         requires may { CanKeep self.old target }
+        requires word_is { word ≡ word_in self.old.places.directory target }
+        requires goes { GoesTo self.old target generation }
+        requires generation_in { generation ≤ 8 }
         requires absent { IsAbsent self.old.places.own target }
         ensures { IfOk result (λ place. Copies self.old self.new target place) }
     {
-        let generation = directory.target(directory.generation(target));
         let place = self.share.copy(target, generation)?;
-        self.places.note(target, place, directory)?;
+        self.places.note(target, word, place)?;
         Ok(place)
     }
 
     /// Puts a place into a field of what stands at `at`; `refers` is the generation of what is there, or a lower one.
+    #[inline(always)]
     pub(crate) fn put(&mut self, at: Address, index: u32, place: Address, refers: u8)
         requires { index < length (words_of (start_in self.old.share at)) }
         ensures { Puts self.old self.new at index place refers }
@@ -58,10 +72,10 @@ impl Sweeper {
         ensures at { IsAtIn self.now object result }
         ensures index_in { index < length (words_of (start_in self.now.share result)) }
     {
-        if !directory.collected(object) {
+        let Some(found) = directory.find(object) else {
             return object;
-        }
-        match self.places.place_of(object, directory) {
+        };
+        match self.places.place_of(object, found.word) {
             Some(place) => place,
             None => unreachable!(),
         }

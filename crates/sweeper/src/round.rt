@@ -1,6 +1,6 @@
 //! A round of a sweeper.
 
-ghost use Rattle.std.specs.Prelude.{◌≡◌, ◌+◌, ◌-◌, ◌^◌, ◌≤◌, true, [], OnErr, OnOk, length, min};
+ghost use Rattle.std.specs.Prelude.{◌≡◌, ◌+◌, ◌-◌, ◌^◌, true, [], OnErr, OnOk, min};
 ghost use Rattle.sweeper.specs.Ready.{Ready, Runs, RunsRound};
 
 use crate::Sweeper;
@@ -17,7 +17,7 @@ impl Sweeper {
         requires ready { Ready self.old }
         ensures runs { OnOk result (RunsRound self.old self.new) }
         ensures inbox { OnOk result (self.new.inbox ≡ []) }
-        ensures swept { OnOk result (length self.new.places.own ≤ self.new.swept) }
+        ensures swept { OnOk result (self.new.places.unswept ≡ []) }
         ensures round { OnOk result (self.new.round ≡ min (self.old.round + 1) (2 ^ 64 - 1)) }
         ensures ran_out { OnOk result (self.new.ran_out ≡ self.old.ran_out) }
         ensures refused { OnErr result (self.new.ran_out ≡ true) }
@@ -37,7 +37,7 @@ impl Sweeper {
         requires ready { Ready self.old }
         ensures runs { OnOk result (Runs self.old self.new) }
         ensures inbox { OnOk result (self.new.inbox ≡ []) }
-        ensures swept { OnOk result (length self.new.places.own ≤ self.new.swept) }
+        ensures swept { OnOk result (self.new.places.unswept ≡ []) }
     {
         self.handle_all(directory)?;
         self.sweep_all(directory)?;

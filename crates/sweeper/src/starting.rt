@@ -181,7 +181,7 @@ impl Sweeper {
         ensures directory { IfOk result (λ v. v.places.directory ≡ directory.now) }
         ensures number { IfOk result (λ v. v.share.number ≡ number) }
         ensures own { IfOk result (λ v. v.places.own ≡ []) }
-        ensures swept { IfOk result (λ v. v.swept ≡ 0) }
+        ensures swept { IfOk result (λ v. v.places.unswept ≡ []) }
         ensures round { IfOk result (λ v. v.round ≡ 0) }
         ensures ran_out { IfOk result (λ v. v.ran_out ≡ false) }
     {
@@ -199,7 +199,6 @@ impl Sweeper {
             share,
             registers,
             places,
-            swept: 0,
             inbox: mail.inbox,
             outbox: mail.outbox,
             round: 0,

@@ -13,8 +13,6 @@ pub struct Sweeper {
     pub(crate) share: Share,
     pub(crate) registers: Registers,
     pub(crate) places: Places,
-    /// How many of the forwarded objects are swept.
-    pub(crate) swept: usize,
     pub(crate) inbox: Inbox,
     pub(crate) outbox: Outbox,
     /// Which round comes next.
@@ -35,7 +33,6 @@ impl Model for Sweeper {
       share = s.share;
       registers = s.registers;
       places = s.places;
-      swept = s.swept;
       inbox = s.inbox;
       outbox = s.outbox;
       round = s.round;
@@ -46,7 +43,6 @@ impl Model for Sweeper {
       share = s.share;
       registers = s.registers;
       places = s.places;
-      swept = s.swept;
       inbox = s.inbox;
       outbox = s.outbox;
       round = s.round;

@@ -1,32 +1,66 @@
 //! Forwarded objects are swept.
 
-ghost use Rattle.std.specs.Prelude.{◌≡◌, ◌+◌, ◌^◌, ◌<◌, ◌≤◌, OnOk, length};
+ghost use Rattle.std.specs.Prelude.{◌≡◌, ◌+◌, ◌<◌, ◌≤◌, [], ℕ, None, Some, true, false, IfNone, IfOk, IfSome, OnOk, length};
+ghost use Rattle.directory.specs.Directories.{found_at};
+ghost use Rattle.territory.specs.Territories.{words_of};
+ghost use Rattle.sweep_share.specs.Shares.{start_in};
+ghost use Rattle.sweeper.specs.Sweepers.{AreStrong, AskNothing, asked_in, left_of};
 ghost use Rattle.sweeper.specs.Ready.{Ready, Runs};
 
 use crate::Sweeper;
-use crate::fields::fields_to_sweep;
+use crate::fields::{Asked, first_asked, strong_fields};
 use directory::Directory;
+use gc_words::Address;
 use std::alloc::AllocError;
 
 impl Sweeper {
-    /// Handles the fields of the first object that is not swept. It is read at its old place, which stays as it was.
-    fn sweep_next(&mut self, directory: &Directory) -> Result<(), AllocError>
+    /// The first strong field of an object, from one on, that refers to a collected object. It is read at the object's
+    /// old place, which stays as it was.
+    #[inline(always)]
+    fn next_asked(
+        &self,
+        object: Address,
+        from: u32,
+        end: u32,
+        directory: &Directory,
+    ) -> Option<Asked>
+        requires same { self.now.places.directory ≡ directory.now }
+        requires end { end ≤ length (words_of (start_in self.now.share object)) }
+        requires strong { AreStrong (start_in self.now.share object) from end }
+        ensures within { IfSome result (λ a. (from ≤ a.index) × (a.index < end)) }
+        ensures target { IfSome result (λ a.
+            asked_in self.now.places.directory (start_in self.now.share object) a.index ≡ Some a.target) }
+        ensures found { IfSome result (λ a. found_at directory.now a.target ≡ Some a.found) }
+        ensures first { IfSome result (λ a. AskNothing self.now object from a.index) }
+        ensures none { IfNone result (AskNothing self.now object from end) }
+    {
+        if from < end {
+            first_asked(self.share.fields(object), from, end, directory)
+        } else {
+            None
+        }
+    }
+
+    /// Handles the fields of the object that was forwarded last of those that are not swept, and answers whether there
+    /// was one. So an object's fields are handled while its words are still near, and a list is followed to its end.
+    fn sweep_next(&mut self, directory: &Directory) -> Result<bool, AllocError>
         requires same { self.old.places.directory ≡ directory.now }
         requires ready { Ready self.old }
-        requires left { self.old.swept < length self.old.places.own }
-        requires fits { self.old.swept + 1 < 2 ^ 64 }
         ensures runs { OnOk result (Runs self.old self.new) }
-        ensures swept { OnOk result (self.new.swept ≡ self.old.swept + 1) }
         ensures inbox { OnOk result (self.new.inbox ≡ self.old.inbox) }
+        ensures more { IfOk result (λ b. b ≡ true → left_of self.new < left_of self.old) }
+        ensures done { IfOk result (λ b. b ≡ false → self.new.places.unswept ≡ []) }
     {
-        let (object, copy) = self.places.forwarded(self.swept);
-        self.swept += 1;
-        let kind = self.share.kind(object);
-        let count = fields_to_sweep(kind, self.share.length(object));
-        for index in 0..count {
-            self.sweep_field(kind, object, copy, index, directory)?;
+        let Some((object, copy)) = self.places.take_unswept() else {
+            return Ok(false);
+        };
+        let (first, end) = strong_fields(self.share.kind(object), self.share.length(object));
+        let mut from = first;
+        while let Some(asked) = self.next_asked(object, from, end, directory) {
+            self.sweep_field(object, copy, asked, directory)?;
+            from = asked.index + 1;
         }
-        Ok(())
+        Ok(true)
     }
 
     /// Sweeps until no object of its own is unswept.
@@ -34,12 +68,10 @@ impl Sweeper {
         requires same { self.old.places.directory ≡ directory.now }
         requires ready { Ready self.old }
         ensures runs { OnOk result (Runs self.old self.new) }
-        ensures swept { OnOk result (length self.new.places.own ≤ self.new.swept) }
+        ensures swept { OnOk result (self.new.places.unswept ≡ []) }
         ensures inbox { OnOk result (self.new.inbox ≡ self.old.inbox) }
     {
-        while self.swept < self.places.len() {
-            self.sweep_next(directory)?;
-        }
+        while self.sweep_next(directory)? {}
         Ok(())
     }
 }

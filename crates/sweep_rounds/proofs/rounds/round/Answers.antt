@@ -7,7 +7,7 @@ use Rattle.sweep_rounds.proofs.rounds.round.Goals as goal
 
 -- a round of which nothing was refused
 rounded : {T E : Type 0} (r : Result T E) (v v' : SweeperView) → OnOk r (RunsRound v v') → OnOk r (v'.inbox ≡ [])
-    → OnOk r (length v'.places.own ≤ v'.swept) → OnOk r (v'.round ≡ min (v.round + 1) (2 ^ 64 - 1))
+    → OnOk r (v'.places.unswept ≡ []) → OnOk r (v'.round ≡ min (v.round + 1) (2 ^ 64 - 1))
     → OnErr r (v'.ran_out ≡ true) → v'.ran_out ≡ false → Rounded v v'
 rounded (Ok x) v v' runs inbox swept round refused ran =
     record { runs = runs; inbox = inbox; swept = swept; round = round }

@@ -29,8 +29,7 @@ none_there : DirectoryView → SweeperView
 none_there d = record {
   share = record { number = 0; sweepers = 0; territories = [] };
   registers = record { number = 0; sweepers = 0; items = [] };
-  places = record { number = 0; directory = d; own = [] };
-  swept = 0;
+  places = record { number = 0; directory = d; own = []; unswept = [] };
   inbox = [];
   outbox = [];
   round = 0;

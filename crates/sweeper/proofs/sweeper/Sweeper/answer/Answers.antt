@@ -2,7 +2,8 @@ use Rattle.std.proofs.Common.{◌≡◌, subst}
 use Rattle.gc_mail.specs.Recipients.{holder_of}
 use Rattle.sweeper.specs.Sweepers.{Writes}
 use Rattle.sweeper.specs.Ready.{IsTold, IsWrittenNow}
-use Rattle.sweeper.proofs.AnswerParts.{goes_where, held, not_held, sent_is}
+use Rattle.sweeper.proofs.AnswerParts.{held, not_held, sent_is}
+use Rattle.sweeper.proofs.Fielding.{goes_there, goes_to_target, told_there, word_there, young_there}
 use Rattle.sweeper.proofs.WordsKept.{word_kept}
 use Rattle.sweeper.proofs.sweeper.Sweeper.answer.Goals as goal
 use Rattle.sweeper.proofs.sweeper.Sweeper.answer.Goals.{Then-holder-number}
@@ -26,8 +27,8 @@ returns-then-holder-number c =
     IsWrittenNow c.in_ok-place.place c.keep.new.self c.requires.may
     (own (goal.at.returns-then-holder-number c).Then-holder-number) c.in_ok-place.ensures
     (subst (Writes c.keep.new.self c.write.new.self c.args.back.now c.in_ok-place.place)
-    (goes_where c.args.self.now c.args.directory.now c.args.target c.generation.result c.target-refers.result
-    c.requires.may c.requires.same c.generation.ensures c.target-refers.ensures.value)
+    (goes_to_target c.args.self.now c.args.directory.now c.args.target c.target-refers.result c.in-Some.found
+    c.requires.may c.requires.same (sym c.find.ensures.value ∙ c.in-Some.is) c.target-refers.ensures.value)
     c.write.ensures)
 
 pub returns : goal.returns

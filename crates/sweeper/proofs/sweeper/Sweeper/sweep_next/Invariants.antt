@@ -1,11 +1,17 @@
-use Rattle.std.proofs.Common.{◌≡◌, ◌+◌}
+use Rattle.std.proofs.Common.{◌≡◌, ◌-◌, ◌<◌, ◌≤◌}
+use Rattle.sweeper.specs.Sweepers.{left_of}
 use Rattle.sweeper.proofs.WorldSwept.{IsSweptTo}
 use Rattle.sweeper.proofs.sweeper.Sweeper.sweep_next.Given as goal
 
-abbrev pub invariant-loop-index : goal.invariant-loop-index
-invariant-loop-index l = record {
-  done : IsSweptTo l.fn.self l.self l.object l.index;
-  swept : l.self.swept ≡ l.fn.self.swept + 1;
+abbrev pub invariant-loop-from : goal.invariant-loop-from
+invariant-loop-from l = record {
+  done : IsSweptTo l.fn.self l.self l.object l.from;
+  begun : l.first ≤ l.from;
+  order : l.from ≤ l.end;
+  left : left_of l.self < left_of l.fn.self;
   inbox : l.self.inbox ≡ l.fn.self.inbox;
   directory : l.self.places.directory ≡ l.fn.self.places.directory;
 }
+
+abbrev pub decreases-loop-from : goal.decreases-loop-from
+decreases-loop-from l = l.end - l.from

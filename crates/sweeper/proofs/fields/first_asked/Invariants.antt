@@ -1,0 +1,7 @@
+use Rattle.std.proofs.Common.{◌≡◌, ℕ, ◌<◌, ◌≤◌, None, slice_index}
+use Rattle.sweeper.specs.Sweepers.{asked_by}
+use Rattle.sweeper.proofs.fields.first_asked.Given as goal
+
+abbrev pub invariant-loop-index : goal.invariant-loop-index
+invariant-loop-index l =
+    (i : ℕ) → l.from ≤ i → i < l.index → asked_by l.directory.now (slice_index l.words.now i) ≡ None
