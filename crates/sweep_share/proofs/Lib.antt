@@ -4,3 +4,4 @@ pub mod Copying
 pub mod Numbers
 pub mod Raising
 pub mod EachOfThem
+pub mod Threads

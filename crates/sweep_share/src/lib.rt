@@ -1,8 +1,8 @@
 //! The territories and the registers that one sweeper serves, by address and by number.
 //!
 //! Sweeper k of n serves the threads k, k + n, k + 2 n and so on below 64, and nobody else touches their segments. A
-//! `Share` holds these territories by value and finds the one of an address by a division, so that a sweeper reads,
-//! copies and writes objects by address alone. For contracts it is the territories in order with k and n; `start_in`
+//! `Share` holds these territories by value and finds the one of an address by a table of threads, so that a sweeper
+//! reads, copies and writes objects by address alone. For contracts it is the territories in order with k and n; `start_in`
 //! is what starts at an address of its own.
 //!
 //! `len` and `territory` show the territories in order, and `raise_cards` raises the marks on all their cards.

@@ -4,23 +4,30 @@ ghost use Rattle.std.specs.Prelude.{◌≡◌, ◌/◌, ◌%◌, ◌<◌, ◌≤
 ghost use Rattle.gc_mail.specs.Recipients.{owner};
 ghost use Rattle.gc_words.specs.Layout.{thread_of};
 ghost use Rattle.territory.specs.Territories.{words_of};
+ghost use Rattle.sweep_share.specs.Indices.{AreIndices};
 ghost use Rattle.sweep_share.specs.Shares.{AreFinished, AreRaised, AreShareOf, IsCopied, IsPut, IsRaised, IsShare, start_in, territory_at, territory_of};
 
-use gc_words::{Address, owner_of};
+use gc_words::Address;
 use std::alloc::AllocError;
 use std::marker::Model;
 use territory::Territory;
 use trace_types::Kind;
+
+/// What stands in the place of an index for a thread of another sweeper: no territory has it.
+const NOT_OWN: u8 = 255;
 
 /// The territories of the threads that leave `number` when divided by `sweepers`.
 #[derive(Drop)]
 pub struct Share {
     number: u32,
     sweepers: u32,
+    /// For each thread the index of its territory, so that no access to a word divides.
+    indices: [u8; 64],
     territories: Vec<Territory>,
 }
 
 impl Model for Share {
+    ghost use Rattle.sweep_share.specs.Indices.{AreIndices};
     ghost use Rattle.sweep_share.specs.Shares.{AreShareOf, ShareView, coded_share};
 
     ghost Value = { ShareView };
@@ -29,7 +36,23 @@ impl Model for Share {
 
     ghost view = { λ s. record { number = s.number; sweepers = s.sweepers; territories = s.territories.items } };
 
-    ghost invariant = { λ s. AreShareOf s.number s.sweepers s.territories.items };
+    ghost invariant = { λ s. AreShareOf s.number s.sweepers s.territories.items
+        × AreIndices s.number s.sweepers s.indices };
+}
+
+/// For each thread the index of its territory, where it is one of sweeper `number`, and else `NOT_OWN`.
+fn indices_of(number: u32, sweepers: u32) -> [u8; 64]
+    requires number_in { number < sweepers }
+    requires most { sweepers ≤ 64 }
+    ensures { AreIndices number sweepers result }
+{
+    let mut indices = [NOT_OWN; 64];
+    for thread in 0..64u32 {
+        if thread % sweepers == number {
+            indices[thread as usize] = (thread / sweepers) as u8;
+        }
+    }
+    indices
 }
 
 /// Raises the marks of at most `cg` in each of these.
@@ -60,6 +83,7 @@ impl Share {
         Share {
             number,
             sweepers,
+            indices: indices_of(number, sweepers),
             territories,
         }
     }
@@ -86,7 +110,7 @@ impl Share {
         ensures value { result.now ≡ territory_at self.now (thread / self.now.sweepers) }
         ensures thread { result.now.thread ≡ thread }
     {
-        &self.territories[(u32::from(thread) / self.sweepers) as usize]
+        &self.territories[usize::from(self.indices[thread as usize])]
     }
 
     /// Raises the marks of at most `cg` on the cards of generations above `cg`, as each territory does.
@@ -105,23 +129,26 @@ impl Share {
     }
 
     /// Whether the address belongs to one of its threads.
+    #[inline(always)]
     pub fn is_own(&self, at: Address) -> bool
         ensures { IsTrue result ↔ (owner self.now.sweepers at ≡ self.now.number) }
     {
-        owner_of(at.thread(), self.sweepers) == self.number
+        self.indices[at.thread() as usize] != NOT_OWN
     }
 
     /// The index of the territory of an address of its own.
+    #[inline(always)]
     fn index(&self, at: Address) -> usize
         requires { owner self.now.sweepers at ≡ self.now.number }
         ensures value { result ≡ thread_of at / self.now.sweepers }
         ensures within { result < length self.now.territories }
         ensures thread { thread_of at < 64 }
     {
-        (u32::from(at.thread()) / self.sweepers) as usize
+        usize::from(self.indices[at.thread() as usize])
     }
 
     /// The territory of an address of its own.
+    #[inline(always)]
     fn territory_of(&self, at: Address) -> &Territory
         requires { owner self.now.sweepers at ≡ self.now.number }
         ensures { result.now ≡ territory_of self.now at }
@@ -131,6 +158,7 @@ impl Share {
     }
 
     /// The kind of a start.
+    #[inline(always)]
     pub fn kind(&self, at: Address) -> Kind
         requires { IsSome (start_in self.now at) }
         ensures { IfSome (start_in self.now at) (λ x. result ≡ x.kind) }
@@ -139,6 +167,7 @@ impl Share {
     }
 
     /// Its length: fields, or bytes of a byte object; 0 of a guardian, 2 of a queue cell.
+    #[inline(always)]
     pub fn length(&self, at: Address) -> u32
         requires { IsSome (start_in self.now at) }
         ensures { IfSome (start_in self.now at) (λ x. result ≡ x.length) }
@@ -147,6 +176,7 @@ impl Share {
     }
 
     /// A word of it, counted after the header.
+    #[inline(always)]
     pub fn word(&self, at: Address, index: u32) -> u64
         requires { index < length (words_of (start_in self.now at)) }
         ensures { result ≡ slice_index (words_of (start_in self.now at)) index }
@@ -156,6 +186,7 @@ impl Share {
 
     /// Puts a word into a start, at an index that is counted after its header, and marks its card where `refers`, the
     /// generation of what the word refers to, is below that of the start. 255 stands for no reference.
+    #[inline(always)]
     pub fn put(&mut self, at: Address, index: u32, word: u64, refers: u8)
         requires { index < length (words_of (start_in self.old at)) }
         ensures { IsPut self.old self.new at index word refers }
@@ -166,6 +197,7 @@ impl Share {
 
     /// Makes a copy of a start in this generation, in the same thread, and gives its address. No card is marked. Takes
     /// memory.
+    #[inline(always)]
     pub fn copy(&mut self, at: Address, generation: u8) -> Result<Address, AllocError>
         requires start { IsSome (start_in self.old at) }
         requires generation_in { generation ≤ 8 }

@@ -19,7 +19,7 @@ returns-clause-copied c =
     subst (λ (z : ShareView). IsCopied c.args.self.now (with_territory z c.index-i.result c.copy.new.self) c.args.at c.args.generation c.in_ok-place.place)
     (sym c.self.view_is)
     (is_copied c.args.self.now c.args.at c.index-i.result c.args.generation c.in_ok-place.place c.index_mut.result.now c.copy.new.self
-    (subst (λ (z : ShareView). AreShareOf z.number z.sweepers z.territories) c.self.view_is c.self.invariant) c.index-i.ensures.thread
+    (subst (λ (z : ShareView). AreShareOf z.number z.sweepers z.territories) c.self.view_is c.self.invariant.0) c.index-i.ensures.thread
     c.index-i.ensures.value within own is
     (λ x e. record {
       address = c.in_ok-place.ensures.address.0;
