@@ -123,11 +123,14 @@ module _ (world : World) (w : Setting) (h h' : Hand) (todo : List Standing) (x q
     | inr other ↦ ap (λ z. field_of z i) (copied.others r other) ∙ f
   ]
 
+  still_own : (y r : ℕ) → Contains h.own (y, r) → Contains h'.own (y, r)
+  still_own y r c =
+      subst (λ l. Contains l (y, r)) (sym copied.own)
+      (Contains-append_left h.own ((x, q) ∷ []) (y, r) c)
+
   still_at : (y r : ℕ) → IsAt world h.own y r → IsAt world h'.own y r
   still_at y r (inl old) = inl old
-  still_at y r (inr c) =
-      inr (subst (λ l. Contains l (y, r)) (sym copied.own)
-      (Contains-append_left h.own ((x, q) ∷ []) (y, r) c))
+  still_at y r (inr c) = inr (still_own y r c)
 
   still_there : (c : Back) (t : ℕ) → FixedAt world h c t → FixedAt world h' c t
   still_there (back.Register r) t f = ap (λ g. g r) copied.register ∙ f
@@ -136,20 +139,20 @@ module _ (world : World) (w : Setting) (h h' : Hand) (todo : List Standing) (x q
   still_there (back.Wait y) t f = f
   still_there back.Nothing t f = f
 
-  -- what is swept is another object, which stays so
+  -- what was forwarded before is not x
+  own_differs : (y r : ℕ) → Contains h.own (y, r) → x ≢ y
+  own_differs y r c e =
+      let i = index_some h.own (y, r) c in
+      copied.absent i.0 i.1 (ap object_of i.2 ∙ sym e)
+
   still_swept : (y : ℕ) → IsSwept h y → IsSwept h' y
   still_swept y s = (
-    (
-      s.0.0,
-      subst (λ l. Contains l (y, s.0.0)) (sym copied.own)
-          (Contains-append_left h.own ((x, q) ∷ []) (y, s.0.0) s.0.1),
-    ),
-    λ r c. elim (Contains-push_cases h.unswept (x, q) (y, r) (subst (λ l. Contains l (y, r)) copied.unswept c)) [
-      | inl e ↦ s.1 r e
-      | inr e ↦
-          let i = index_some h.own (y, s.0.0) s.0.1 in
-          absurd (copied.absent i.0 i.1 (ap object_of i.2 ∙ sym (ap object_of e)))
-    ],
+    (s.0.0, still_own y s.0.0 s.0.1),
+    λ r c.
+        elim (Contains-push_cases h.unswept (x, q) (y, r) (subst (λ l. Contains l (y, r)) copied.unswept c)) [
+          | inl e ↦ s.1 r e
+          | inr e ↦ own_differs y s.0.0 s.0.1 (ap object_of e)
+        ],
   )
 
   pub holds_copied : Holds world w h' (in_standing world (message.Forward x b) ∷ todo)

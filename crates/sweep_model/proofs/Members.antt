@@ -1,6 +1,6 @@
 -- What all sweepers have forwarded and swept, as the state of the core says it. The object of a slot that
 -- stands is older or swept, and so it has its place.
-use Rattle.std.proofs.Common.{◌≡◌, ℕ, ◌<◌, ◌==◌, ◌&&◌, not, false, List, map, Contains, IsTrue, refl, sym, ◌∙◌, ap, subst, inl, inr, ◌⊎◌, Some}
+use Rattle.std.proofs.Common.{◌≡◌, ℕ, ◌<◌, ◌==◌, ◌&&◌, not, false, map, Contains, IsTrue, refl, sym, ◌∙◌, ap, subst, inl, inr, ◌⊎◌, Some}
 use Rattle.std.proofs.lemmas.Bool.{both_ways, eq-eqb, eqb-true, not-true, or_cases}
 use Rattle.gc_mail.specs.declared.message.Slot.{Slot as Back}
 use Rattle.gc_mail.specs.declared.message.Slot.TheVariants as back
@@ -26,12 +26,10 @@ use Rattle.sweep_model.proofs.Ages.{older_stays}
 use Rattle.sweep_model.proofs.Apt.{due_from, owner_in}
 use Rattle.sweep_model.proofs.Names.{named_once}
 
-listed_has : (xs : List ℕ) (x : ℕ) → Contains xs x → IsTrue (has xs x)
-listed_has xs x c = some_any (λ y. y == x) xs x c (eq-eqb x x refl)
-
--- what is unswept is in the list of the core
+-- the object of an unswept pair is among the unswept
 pub unswept_has : (h : Hand) (x p : ℕ) → Contains h.unswept (x, p) → IsTrue (has (unswept_of h) x)
-unswept_has h x p c = listed_has (unswept_of h) x (some_map object_of h.unswept (x, p) c)
+unswept_has h x p c =
+    some_any (λ y. y == x) (unswept_of h) x (some_map object_of h.unswept (x, p) c) (eq-eqb x x refl)
 
 -- ---- the state and the sweepers
 
@@ -88,15 +86,12 @@ module _ (world : World) (w : Setting) (hands : ℕ → Hand) (s : State) (setti
     owner_swept x h =
         let k : ℕ = owner world.sweepers x in
         let b : k < world.sweepers = owner_in world.sweepers x good.some in
-        let pair = owner_has x (and_l _ _ h) in (
-          pair,
-          λ p c.
-              let in_state : IsTrue (has s.unswept x) =
-              (stand.are_parts k b).unswept x (setting.owner x)
-              ∙ (ap (λ l. has l x) (stand.holds k b).unswept ∙ unswept_has (hands k) x p c) in
-              let none : has s.unswept x ≡ false =
-              not-true (has s.unswept x) (and_r (in_list s x) (not (has s.unswept x)) h) in
-              absurd (both_ways (has s.unswept x) none in_state),
+        let none : has s.unswept x ≡ false =
+        not-true (has s.unswept x) (and_r (in_list s x) (not (has s.unswept x)) h) in (
+          owner_has x (and_l _ _ h),
+          λ q c. both_ways (has s.unswept x) none
+              ((stand.are_parts k b).unswept x (setting.owner x)
+              ∙ (ap (λ l. has l x) (stand.holds k b).unswept ∙ unswept_has (hands k) x q c)),
         )
 
     -- ---- slots that stand

@@ -1,7 +1,7 @@
 -- What a sweeper's memory has: its places apart, and the parts of `Tied` that do not change.
-use Rattle.std.proofs.Common.{◌≡◌, ℕ, suc, ◌+◌, ◌<◌, List, [], ◌∷◌, ◌++◌, length, Contains, Some, refl, sym, ap, subst, ◌∙◌, inl, inr, arith}
+use Rattle.std.proofs.Common.{◌≡◌, ◌≢◌, ℕ, suc, ◌<◌, List, [], ◌∷◌, ◌++◌, length, Contains, Some, refl, sym, ap, subst, ◌∙◌, inl, inr, arith}
 use Rattle.std.proofs.lemmas.Bool.{both_ways, cases_Bool}
-use Rattle.std.proofs.lemmas.List.{get_or_append_left, length_push}
+use Rattle.std.proofs.lemmas.List.{get_or_append_left, get_or_push, length_push}
 use Rattle.std.proofs.lemmas.List.Elements.{Contains-append_left}
 use Rattle.std.proofs.lemmas.Option.{none-some}
 use Rattle.segment.specs.Segments.{Start}
@@ -10,6 +10,7 @@ use Rattle.gc_mail.specs.Recipients.{owner}
 use Rattle.owned_core.proofs.Lists.{contains_cases, contains_none}
 use Rattle.sweep_model.specs.World.{World, is_collected}
 use Rattle.sweep_model.specs.Hands.{Hand, IsAt, IsKeptAt, Tied, forwarded_at, object_of, with_unswept}
+use Rattle.sweep_model.specs.Moves.{SweepKeepsTied}
 
 -- ---- places apart
 
@@ -78,6 +79,37 @@ at_once world h tied x y p s t was_x was_y (inr pair) (inl b) =
     absurd (none-some t (sym (tied.fresh x p pair).0 ∙ ap world.image b.1 ∙ was_y))
 at_once world h tied x y p s t was_x was_y (inr a) (inr b) = same_object world h tied x y p a b
 
+-- ---- what is unswept
+
+-- no two pairs of the list are of one object
+abbrev pub AreOnce : List (ℕ × ℕ) → Type 0
+AreOnce own = (m n : ℕ) → m < length own → n < length own → (forwarded_at own m).0 ≡ (forwarded_at own n).0
+    → m ≡ n
+
+-- nor are any without the last one
+front_once : (rest : List (ℕ × ℕ)) (f : ℕ × ℕ) → AreOnce (rest ++ f ∷ []) → AreOnce rest
+front_once rest f once m n a b e =
+    once m n (omega (arith, a, length_push rest f)) (omega (arith, b, length_push rest f))
+    (ap object_of (get_or_append_left rest (f ∷ []) (0, 0) m a) ∙ e
+    ∙ sym (ap object_of (get_or_append_left rest (f ∷ []) (0, 0) n b)))
+
+-- and the last one is of another object than each before it
+pub last_differs : (rest : List (ℕ × ℕ)) (f g : ℕ × ℕ) → AreOnce (rest ++ f ∷ []) → Contains rest g
+    → g.0 ≢ f.0
+last_differs rest f g once c e =
+    let i = index_some rest g c in
+    let same : i.0 ≡ length rest =
+    once i.0 (length rest) (omega (arith, i.1, length_push rest f)) (omega (arith, length_push rest f))
+    (ap object_of (get_or_append_left rest (f ∷ []) (0, 0) i.0 i.1 ∙ i.2) ∙ e
+    ∙ sym (ap object_of (get_or_push rest f (0, 0) (length rest) refl))) in
+    absurd (omega (arith, i.1, same))
+
+-- what is unswept after a sweep was so before it
+pub still_unswept : (h : Hand) (rest : List (ℕ × ℕ)) (f g : ℕ × ℕ) → h.unswept ≡ rest ++ f ∷ []
+    → Contains rest g → Contains h.unswept g
+still_unswept h rest f g last c =
+    subst (λ l. Contains l g) (sym last) (Contains-append_left rest (f ∷ []) g c)
+
 -- ---- what does not change
 
 -- what stands at p is as it was
@@ -115,10 +147,9 @@ mail_keeps_tied world h inbox outbox tied =
       registers = tied.registers;
     }
 
--- one object fewer is unswept
-pub sweep_keeps_tied : (world : World) (h : Hand) (rest : List (ℕ × ℕ)) (x p : ℕ) → Tied world h
-    → h.unswept ≡ rest ++ (x, p) ∷ [] → Tied world (with_unswept h rest)
-sweep_keeps_tied world h rest x p tied is = record {
+-- the last unswept object is swept
+pub sweep_keeps_tied : SweepKeepsTied
+sweep_keeps_tied world h rest x p tied last = record {
   frozen = tied.frozen;
   older = λ y s was mine e. kept_again world h (with_unswept h rest) y y refl (tied.older y s was mine e);
   copied = λ y q c. kept_again world h (with_unswept h rest) y q refl (tied.copied y q c);
@@ -126,17 +157,8 @@ sweep_keeps_tied world h rest x p tied is = record {
   fresh = tied.fresh;
   objects_once = tied.objects_once;
   places_once = tied.places_once;
-  unswept_in = λ y q c. tied.unswept_in y q
-      (subst (λ l. Contains l (y, q)) (sym is) (Contains-append_left rest ((x, p) ∷ []) (y, q) c));
-  unswept_once = λ m n a b e.
-      tied.unswept_once m n (omega (arith, a, more)) (omega (arith, b, more)) (same m a ∙ e ∙ sym (same n b));
+  unswept_in = λ y q c. tied.unswept_in y q (still_unswept h rest (x, p) (y, q) last c);
+  unswept_once = front_once rest (x, p) (subst AreOnce last tied.unswept_once);
   only = tied.only;
   registers = tied.registers;
 }
-  where
-    more : length h.unswept ≡ length rest + 1
-    more = ap length is ∙ length_push rest (x, p)
-
-    same : (n : ℕ) → n < length rest → (forwarded_at h.unswept n).0 ≡ (forwarded_at rest n).0
-    same n a =
-        ap (λ l. (forwarded_at l n).0) is ∙ ap object_of (get_or_append_left rest ((x, p) ∷ []) (0, 0) n a)

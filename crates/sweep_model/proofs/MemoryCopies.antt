@@ -88,6 +88,16 @@ module _ (world : World) (h h' : Hand) (x q : ℕ) (tied : Tied world h) (young 
   own_from : (y p : ℕ) → Contains (h.own ++ (x, q) ∷ []) (y, p) → Contains h'.own (y, p)
   own_from y p c = subst (λ l. Contains l (y, p)) (sym copy.own) c
 
+  own_before : (y p : ℕ) → Contains h.own (y, p) → Contains h'.own (y, p)
+  own_before y p c = own_from y p (Contains-append_left h.own ((x, q) ∷ []) (y, p) c)
+
+  -- the new object is in no unswept pair of before
+  new_object : (n : ℕ) → n < length h.unswept → (forwarded_at h.unswept n).0 ≢ x
+  new_object n l is =
+      let f = forwarded_at h.unswept n in
+      let i = index_some h.own f (tied.unswept_in f.0 f.1 (Contains-get_or h.unswept n (0, 0) l)) in
+      copy.absent i.0 i.1 (ap object_of i.2 ∙ is)
+
   -- the new place is in no pair of before
   new_place : (n : ℕ) → n < length h.own → (forwarded_at h.own n).1 ≢ q
   new_place n l is =
@@ -128,15 +138,12 @@ module _ (world : World) (h h' : Hand) (x q : ℕ) (tied : Tied world h) (young 
     ];
     objects_once = rw copy.own (push_once object_of h.own (x, q) tied.objects_once copy.absent);
     places_once = rw copy.own (push_once place_of h.own (x, q) tied.places_once new_place);
-    unswept_in = λ y p c. elim (Contains-push_cases h.unswept (x, q) (y, p) (subst (λ l. Contains l (y, p)) copy.unswept c)) [
-      | inl e ↦ own_from y p (Contains-append_left h.own ((x, q) ∷ []) (y, p) (tied.unswept_in y p e))
-      | inr e ↦ own_from y p (subst (Contains (h.own ++ (x, q) ∷ [])) e (Contains-push h.own (x, q)))
-    ];
-    unswept_once = rw copy.unswept (push_once object_of h.unswept (x, q) tied.unswept_once (λ n l e.
-        let c = tied.unswept_in (forwarded_at h.unswept n).0 (forwarded_at h.unswept n).1
-        (Contains-get_or h.unswept n (0, 0) l) in
-        let i = index_some h.own (forwarded_at h.unswept n) c in
-        copy.absent i.0 i.1 (ap object_of i.2 ∙ e)));
+    unswept_in = λ y p c.
+        elim (Contains-push_cases h.unswept (x, q) (y, p) (subst (λ l. Contains l (y, p)) copy.unswept c)) [
+          | inl e ↦ own_before y p (tied.unswept_in y p e)
+          | inr e ↦ own_from y p (subst (Contains (h.own ++ (x, q) ∷ [])) e (Contains-push h.own (x, q)))
+        ];
+    unswept_once = rw copy.unswept (push_once object_of h.unswept (x, q) tied.unswept_once new_object);
     only = λ p s e. elim (only_there p s e) [
       | inl is ↦ (
         number (ap (owner world.sweepers) is ∙ owner_q),
@@ -150,7 +157,7 @@ module _ (world : World) (h h' : Hand) (x q : ℕ) (tied : Tied world h) (young 
         number r.0,
         elim r.1 [
           | inl was ↦ inl was
-          | inr c ↦ inr (c.0, own_from c.0 p (Contains-append_left h.own ((x, q) ∷ []) (c.0, p) c.1))
+          | inr c ↦ inr (c.0, own_before c.0 p c.1)
         ],
       )
     ];

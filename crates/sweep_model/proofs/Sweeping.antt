@@ -1,9 +1,8 @@
 -- The last unswept object is swept: its fields that ask become slots.
-use Rattle.std.proofs.Common.{◌≡◌, ◌≢◌, ℕ, ◌+◌, ◌<◌, ◌≤◌, true, false, not, ◌||◌, ◌&&◌, ◌==◌, List, [], ◌∷◌, ◌++◌, map, filter, length, Contains, IsTrue, refl, sym, ap, subst, ◌∙◌, inl, inr, arith, Some}
-use Rattle.std.proofs.Math.Seq.{get_or-append_seam}
+use Rattle.std.proofs.Common.{◌≡◌, ◌≢◌, ℕ, ◌<◌, ◌≤◌, true, false, not, ◌||◌, ◌&&◌, ◌==◌, List, [], ◌∷◌, ◌++◌, map, filter, length, Contains, IsTrue, refl, sym, ap, subst, ◌∙◌, inl, inr, arith, Some}
 use Rattle.std.proofs.lemmas.Bool.{and_from, both_ways, cases_eq, cases_lt, eq-eqb, false_from_ne_true, ne_eqb, or_right}
 use Rattle.std.proofs.lemmas.List.Elements.{Contains-append_left, Contains-append_right, Contains-append_cases, Contains-push}
-use Rattle.std.proofs.lemmas.List.{get_or_append_left, length_push, map_push}
+use Rattle.std.proofs.lemmas.List.{map_push}
 use Rattle.std.proofs.lemmas.Option.{none-some, same_Some}
 use Rattle.gc_mail.specs.declared.message.Slot.{Slot as Back}
 use Rattle.gc_mail.specs.declared.message.Slot.TheVariants as back
@@ -25,28 +24,28 @@ use Rattle.owned_core.proofs.Parts.{has_filter, true_and}
 use Rattle.owned_core.proofs.SameSlots.{same_slot_name}
 use Rattle.sweep_model.specs.World.{World, IsWorld, asks, is_collected}
 use Rattle.sweep_model.specs.Settings.{IsSettingOf, due_of, member_of, slot_at}
-use Rattle.sweep_model.specs.Hands.{FixedAt, Hand, IsSwept, Tied, forwarded_at, object_of, with_unswept}
+use Rattle.sweep_model.specs.Hands.{FixedAt, Hand, IsSwept, Tied, object_of, with_unswept}
 use Rattle.sweep_model.specs.Holding.{Holds, IsKnown, count_of, entry_of, mail_of, news_from}
 use Rattle.sweep_model.specs.Moves.{SweepGoes}
 use Rattle.sweep_model.proofs.Asking.{fixed_there}
 use Rattle.sweep_model.proofs.Apt.{core_collects, due_from}
 use Rattle.sweep_model.proofs.Counting.{alike_back, alike_both, count_append, count_found, count_none}
-use Rattle.sweep_model.proofs.Lasts.{filter_last, has_not}
 use Rattle.sweep_model.proofs.Going.{goes_one, same_itself}
-use Rattle.sweep_model.proofs.Memory.{index_some}
+use Rattle.sweep_model.proofs.Lasts.{filter_last, has_not}
+use Rattle.sweep_model.proofs.Memory.{AreOnce, last_differs, still_unswept}
 use Rattle.sweep_model.proofs.Names.{asks_collected, field_in, named_once}
 use Rattle.sweep_model.proofs.News.{IsNews, count_news, news_alike, news_some, some_news}
 
--- the last unswept object is x
-module _ (world : World) (w : Setting) (h : Hand) (others : List (ℕ × ℕ)) (p : Part) (x q : ℕ) (s : Start)
+-- the last unswept object of the list is x
+module _ (world : World) (w : Setting) (h : Hand) (p : Part) (rest : List (ℕ × ℕ)) (x q : ℕ) (s : Start)
     (is_world : IsWorld world) (setting : IsSettingOf world w) (tied : Tied world h)
-    (last : h.unswept ≡ others ++ (x, q) ∷ []) (was : world.image x ≡ Some s)
+    (last : h.unswept ≡ rest ++ (x, q) ∷ []) (was : world.image x ≡ Some s)
     (holds : Holds world w h [] p) where
-  unswept_x : Contains h.unswept (x, q)
-  unswept_x = subst (λ l. Contains l (x, q)) (sym last) (Contains-push others (x, q))
+  in_unswept : Contains h.unswept (x, q)
+  in_unswept = subst (λ l. Contains l (x, q)) (sym last) (Contains-push rest (x, q))
 
   in_own : Contains h.own (x, q)
-  in_own = tied.unswept_in x q unswept_x
+  in_own = tied.unswept_in x q in_unswept
 
   mine : owner world.sweepers x ≡ h.number
   mine = (tied.mine x q in_own).0
@@ -54,37 +53,24 @@ module _ (world : World) (w : Setting) (h : Hand) (others : List (ℕ × ℕ)) (
   collected : is_collected world x ≡ true
   collected = (tied.mine x q in_own).1
 
-  -- what is unswept after it
-  abbrev rest : List ℕ
-  rest = map object_of others
+  -- the objects that are unswept after it
+  abbrev left : List ℕ
+  left = map object_of rest
 
-  unswept_is : p.unswept ≡ map object_of others ++ x ∷ []
-  unswept_is = holds.unswept ∙ ap (map object_of) last ∙ map_push object_of others (x, q)
+  unswept_is : p.unswept ≡ map object_of rest ++ x ∷ []
+  unswept_is = holds.unswept ∙ ap (map object_of) last ∙ map_push object_of rest (x, q)
 
-  others_differ : (y r : ℕ) → Contains others (y, r) → y ≢ x
-  others_differ y r c e =
-      let i = index_some others (y, r) c in
-      let all : length h.unswept ≡ length others + 1 = ap length last ∙ length_push others (x, q) in
-      let there : forwarded_at h.unswept i.0 ≡ (y, r) =
-      ap (λ l. forwarded_at l i.0) last ∙ get_or_append_left others ((x, q) ∷ []) (0, 0) i.0 i.1 ∙ i.2 in
-      let end : forwarded_at h.unswept (length others) ≡ (x, q) =
-      ap (λ l. forwarded_at l (length others)) last ∙ get_or-append_seam others (x, q) [] (0, 0) in
-      let same : i.0 ≡ length others =
-      tied.unswept_once i.0 (length others) (omega (arith, i.1, all)) (omega (arith, all))
-      (ap object_of there ∙ e ∙ sym (ap object_of end)) in
-      absurd (omega (arith, same, i.1))
+  left_differ : (y : ℕ) → Contains left y → y ≢ x
+  left_differ y c e =
+      let r = map_some object_of rest y c in
+      last_differs rest (x, q) r.0 (subst AreOnce last tied.unswept_once) r.1 (r.2 ∙ e)
 
-  rest_differ : (y : ℕ) → Contains rest y → y ≢ x
-  rest_differ y c e =
-      let r = map_some object_of others y c in
-      others_differ r.0.0 r.0.1 r.1 (r.2 ∙ e)
-
-  unswept_after : filter (λ y. not (y == x)) p.unswept ≡ rest
-  unswept_after = ap (filter (λ y. not (y == x))) unswept_is ∙ filter_last x rest rest_differ
+  unswept_after : filter (λ y. not (y == x)) p.unswept ≡ left
+  unswept_after = ap (filter (λ y. not (y == x))) unswept_is ∙ filter_last x left left_differ
 
   unswept_before : IsTrue (has p.unswept x)
   unswept_before = some_any (λ y. y == x) p.unswept x
-      (subst (λ l. Contains l x) (sym unswept_is) (Contains-push rest x)) (eq-eqb x x refl)
+      (subst (λ l. Contains l x) (sym unswept_is) (Contains-push left x)) (eq-eqb x x refl)
 
   listed : IsTrue (in_list (alone (swept_here p x)) x)
   listed = some_any (λ (e : Entry). e.object == x) p.own (entry_of h.number (x, q))
@@ -94,7 +80,7 @@ module _ (world : World) (w : Setting) (h : Hand) (others : List (ℕ × ℕ)) (
 
   swept_now : IsTrue (is_swept (alone (swept_here p x)) x)
   swept_now = and_from _ _ listed
-      (ap not (ap (λ l. has l x) unswept_after ∙ has_not x rest rest_differ))
+      (ap not (ap (λ l. has l x) unswept_after ∙ has_not x left left_differ))
 
   swept_same : (y : ℕ) → y ≢ x → is_swept (alone p) y ≡ is_swept (alone (swept_here p x)) y
   swept_same y other =
@@ -120,7 +106,7 @@ module _ (world : World) (w : Setting) (h : Hand) (others : List (ℕ × ℕ)) (
       elim (holds.begun u c x i (ap (asks world) (sym field) ∙ k.wants)
       (k.slot ∙ ap (λ z. slot_at world z Keep u.slot.target) field) mine) [
         | inl old ↦ both_ways (is_collected world x) old collected
-        | inr r ↦ r.1 q unswept_x
+        | inr r ↦ r.1 q in_unswept
       ]
 
   fresh : (u : Standing) → IsNews world w x 0 (length s.words) u → (d : Due) → Contains (all_dues w) d
@@ -199,7 +185,7 @@ module _ (world : World) (w : Setting) (h : Hand) (others : List (ℕ × ℕ)) (
 
   -- ---- and it stands for the part after it
 
-  still_there : (c : Back) (t : ℕ) → FixedAt world h c t → FixedAt world (with_unswept h others) c t
+  still_there : (c : Back) (t : ℕ) → FixedAt world h c t → FixedAt world (with_unswept h rest) c t
   still_there (back.Register r) t f = f
   still_there (back.Field y i) t f = f
   still_there (back.Entry line part) t f = f
@@ -222,18 +208,24 @@ module _ (world : World) (w : Setting) (h : Hand) (others : List (ℕ × ℕ)) (
       subst (λ (z : Standing). IsKnown world z.slot) (sym r.is)
       (record { where_to = back.Field x r.index; wants = r.wants; slot = refl })
 
-  -- a field that a new slot is of is one of x, which is swept now
+  -- what was swept still is, and x is so now
+  still_swept : (y : ℕ) → IsSwept h y → IsSwept (with_unswept h rest) y
+  still_swept y s = (s.0, λ r c. s.1 r (still_unswept h rest (x, q) (y, r) last c))
+
+  x_swept : IsSwept (with_unswept h rest) x
+  x_swept = ((q, in_own), λ r c. left_differ x (some_map object_of rest (x, r) c) refl)
+
+  -- a field that a new slot is of is one of x
   new_begun : (u : Standing) → Contains news u → (y j : ℕ) → asks world (back.Field y j) ≡ Some u.slot.target
-      → u.slot ≡ slot_at world (back.Field y j) Keep u.slot.target → IsSwept (with_unswept h others) y
+      → u.slot ≡ slot_at world (back.Field y j) Keep u.slot.target → IsSwept (with_unswept h rest) y
   new_begun u c y j wants is_slot =
       let r = news_some world w x 0 (length s.words) u c in
       let field : back.Field y j ≡ back.Field x r.index =
       field_is (back.Field y j) u.slot.target r.index r.target wants r.wants
       (sym (ap (λ (a : Slot). a.name) is_slot) ∙ ap (λ (z : Standing). z.slot.name) r.is) in
-      let same : y ≡ x = same_Some _ _ (ap member_of field) in
-      ((q, subst (λ z. Contains h.own (z, q)) (sym same) in_own), λ r c. others_differ y r c same)
+      subst (IsSwept (with_unswept h rest)) (sym (same_Some _ _ (ap member_of field))) x_swept
 
-  once_again : (a : Slot) → count_of a (mail_of world (with_unswept h others) news) ≤ 1
+  once_again : (a : Slot) → count_of a (mail_of world (with_unswept h rest) news) ≤ 1
   once_again a =
       let sum = count_append a news (mail_of world h []) in
       let new = count_news world w x 0 (length s.words) a in
@@ -248,7 +240,7 @@ module _ (world : World) (w : Setting) (h : Hand) (others : List (ℕ × ℕ)) (
             omega (arith, sum, none, new)
       ]
 
-  pub holds_swept : Holds world w (with_unswept h others) (news_from world w x 0 (length s.words))
+  pub holds_swept : Holds world w (with_unswept h rest) (news_from world w x 0 (length s.words))
       (with_news (swept_here p x) (news_from world w x 0 (length s.words)))
   holds_swept = record {
     own = holds.own;
@@ -260,7 +252,7 @@ module _ (world : World) (w : Setting) (h : Hand) (others : List (ℕ × ℕ)) (
     here = λ u c. elim (Contains-append_cases p.here news u c) [
       | inl e ↦ elim (holds.here u e) [
         | inl m ↦ inl (Contains-append_right news (mail_of world h []) u m)
-        | inr f ↦ inr (fixed_there world h (with_unswept h others) u (λ c r _ _. still_there c r) f)
+        | inr f ↦ inr (fixed_there world h (with_unswept h rest) u (λ c r _ _. still_there c r) f)
       ]
       | inr e ↦ inl (Contains-append_left news (mail_of world h []) u e)
     ];
@@ -282,11 +274,7 @@ module _ (world : World) (w : Setting) (h : Hand) (others : List (ℕ × ℕ)) (
     begun = λ u c y j a is_slot o. elim (Contains-append_cases p.here news u c) [
       | inl e ↦ elim (holds.begun u e y j a is_slot o) [
         | inl old ↦ inl old
-        | inr r ↦ inr (
-          r.0,
-          λ z c. r.1 z
-              (subst (λ l. Contains l (y, z)) (sym last) (Contains-append_left others ((x, q) ∷ []) (y, z) c)),
-        )
+        | inr r ↦ inr (still_swept y r)
       ]
       | inr e ↦ inr (new_begun u e y j a is_slot)
     ];
@@ -294,8 +282,8 @@ module _ (world : World) (w : Setting) (h : Hand) (others : List (ℕ × ℕ)) (
 
 -- so a sweep is an event
 pub sweep_goes : SweepGoes
-sweep_goes world w h others x q s is_world setting tied last was p holds =
-    goes_one world w h.number (with_unswept h others) (news_from world w x 0 (length s.words)) p
+sweep_goes world w h rest x q s is_world setting tied last was p holds =
+    goes_one world w h.number (with_unswept h rest) (news_from world w x 0 (length s.words)) p
     (with_news (swept_here p x) (news_from world w x 0 (length s.words))) _ (Sweep h.number x)
-    (sweeps world w h others p x q s is_world setting tied last was holds) (same_itself _)
-    (holds_swept world w h others p x q s is_world setting tied last was holds)
+    (sweeps world w h p rest x q s is_world setting tied last was holds) (same_itself _)
+    (holds_swept world w h p rest x q s is_world setting tied last was holds)

@@ -13,8 +13,8 @@ use Rattle.gc_mail.specs.Recipients.{holder_of, owner}
 use Rattle.sweep_model.specs.World.{World, asks, is_collected, goes_to}
 
 -- A sweeper: its number; what starts in its territories; the pairs of an object and its place in the order of
--- forwarding, and those of them whose objects are not swept, of which the last is swept next; its registers; and its
--- mail.
+-- forwarding, and of these pairs those whose objects are not swept yet; its registers; and its mail. The last of the
+-- unswept is swept next.
 pub record Hand : Type 0 where
   pub number : ℕ
   pub now : ℕ → Option Start
@@ -34,9 +34,9 @@ object_of f = f.0
 abbrev pub unswept_of : Hand → List ℕ
 unswept_of h = map object_of h.unswept
 
--- the object was forwarded, and is not among the unswept
+-- the object was forwarded and is not among the unswept
 abbrev pub IsSwept : Hand → ℕ → Type 0
-IsSwept h x = ((p : ℕ) × Contains h.own (x, p)) × ((p : ℕ) → Contains h.unswept (x, p) → ⊥)
+IsSwept h x = ((p : ℕ) × Contains h.own (x, p)) × ((q : ℕ) → Contains h.unswept (x, q) → ⊥)
 
 -- the object has no place yet
 abbrev pub IsAbsent : List (ℕ × ℕ) → ℕ → Type 0
@@ -88,7 +88,7 @@ pub record Tied (world : World) (h : Hand) : Type 0 where
       → (forwarded_at h.own m).0 ≡ (forwarded_at h.own n).0 → m ≡ n
   pub places_once : (m n : ℕ) → m < length h.own → n < length h.own
       → (forwarded_at h.own m).1 ≡ (forwarded_at h.own n).1 → m ≡ n
-  -- what is unswept was forwarded, and is there once
+  -- the unswept are forwarded, each once
   pub unswept_in : (x p : ℕ) → Contains h.unswept (x, p) → Contains h.own (x, p)
   pub unswept_once : (m n : ℕ) → m < length h.unswept → n < length h.unswept
       → (forwarded_at h.unswept m).0 ≡ (forwarded_at h.unswept n).0 → m ≡ n
@@ -145,6 +145,6 @@ with_sent h m = record h { outbox = h.outbox ++ m ∷ [] }
 abbrev pub with_inbox : Hand → List Message → Hand
 with_inbox h ms = record h { inbox = ms }
 
--- others are unswept
+-- only these are unswept now
 abbrev pub with_unswept : Hand → List (ℕ × ℕ) → Hand
 with_unswept h rest = record h { unswept = rest }

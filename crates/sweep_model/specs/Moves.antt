@@ -54,8 +54,8 @@ MailKeepsTied =
 
 abbrev pub SweepKeepsTied : Type 0
 SweepKeepsTied =
-    (world : World) (h : Hand) (rest : List (ℕ × ℕ)) (x p : ℕ) → Tied world h → h.unswept ≡ rest ++ (x, p) ∷ []
-    → Tied world (with_unswept h rest)
+    (world : World) (h : Hand) (rest : List (ℕ × ℕ)) (x p : ℕ) → Tied world h
+    → h.unswept ≡ rest ++ (x, p) ∷ [] → Tied world (with_unswept h rest)
 
 -- ---- events
 
@@ -70,8 +70,9 @@ CopyGoes =
 -- the last unswept object is swept: the slots of its fields are at hand
 abbrev pub SweepGoes : Type 0
 SweepGoes =
-    (world : World) (w : Setting) (h : Hand) (rest : List (ℕ × ℕ)) (x p : ℕ) (s : Start) → IsWorld world
-    → IsSettingOf world w → Tied world h → h.unswept ≡ rest ++ (x, p) ∷ [] → world.image x ≡ Some s
+    (world : World) (w : Setting) (h : Hand) (rest : List (ℕ × ℕ)) (x p : ℕ) (s : Start)
+    → IsWorld world → IsSettingOf world w → Tied world h
+    → h.unswept ≡ rest ++ (x, p) ∷ [] → world.image x ≡ Some s
     → Goes world w h [] (with_unswept h rest) (news_from world w x 0 (length s.words))
 
 -- a slot that was not heard of is asked for

@@ -6,7 +6,8 @@ ghost use Rattle.sweep_model.specs.Wholes.{RoundStands, ExchangeStands, QuietIsD
 ghost use Rattle.sweep_model.specs.Turns.{ExchangeLowersRank, RankIsBounded, NamesCover};
 
 /// What a sweeper writes keeps its memory tied to the world: a copy of an object of its own, a place put into a field
-/// or a register that asked, mail, and an object taken out of the unswept.
+/// or a register that asked, and mail. So does a sweep: what is swept, the last unswept object, is taken out of the
+/// unswept.
 pub fn steps_keep_memory_tied()
     ensures copy { CopyKeepsTied }
     ensures put { PutWrites }

@@ -1,7 +1,8 @@
 //! What a sweeper does, as events of the owned core.
 //!
 //! A collection begins with a `World`: what started at each address and what each register held. Each sweeper is seen
-//! as a `Hand`: the starts of its territories, the pairs of an object and its place, its registers and its mail.
+//! as a `Hand`: the starts of its territories, the pairs of an object and its place, those of them that are unswept,
+//! its registers and its mail. What was forwarded last is swept first.
 //! `Tied` says how its memory comes from the world, and `Holds` which part of the core's state it stands for: the stage
 //! of a slot is read off where it lies. Objects are named by their old addresses.
 //!
