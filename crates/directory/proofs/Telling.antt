@@ -46,17 +46,17 @@ starts_below ranges k =
     let whole : take (length ranges) ranges ≡ ranges = take_all (length ranges) ranges (omega arith) in
     omega (arith, sum_by-take-le (λ x. x) ranges k, ap sum whole)
 
-pub found_in : (d : DirectoryView) (a : ℕ) (e : FromSegment) → from_at d a ≡ Some e → (entry_at d.tables (thread_of a) (segment_of a) ≡ Some e) × (offset_of a < e.size)
-found_in d a e h = offset_in (entry_at d.tables (thread_of a) (segment_of a)) (offset_of a) e h
+pub lies_in : (d : DirectoryView) (a : ℕ) (e : FromSegment) → from_at d a ≡ Some e → (entry_at d.tables (thread_of a) (segment_of a) ≡ Some e) × (offset_of a < e.size)
+lies_in d a e h = offset_in (entry_at d.tables (thread_of a) (segment_of a)) (offset_of a) e h
 
 pub word_fits : (d : DirectoryView) (firsts : List ℕ) (a : ℕ) (e : FromSegment) → IsSound d.ranges firsts d.tables → from_at d a ≡ Some e → e.first_word + run_of e.size ≤ 2 ^ 64
 word_fits d firsts a e s h =
-    let own : (start_of d.ranges (thread_of a % length d.ranges) ≤ e.first_word) × (e.first_word + run_of e.size ≤ start_of d.ranges (thread_of a % length d.ranges + 1)) = s.own (thread_of a) (segment_of a) e (found_in d a e h).0 in
+    let own : (start_of d.ranges (thread_of a % length d.ranges) ≤ e.first_word) × (e.first_word + run_of e.size ≤ start_of d.ranges (thread_of a % length d.ranges + 1)) = s.own (thread_of a) (segment_of a) e (lies_in d a e h).0 in
     omega (arith, own.1, starts_below d.ranges (thread_of a % length d.ranges + 1), s.fits)
 
 pub own_word : (d : DirectoryView) (firsts : List ℕ) (a : ℕ) (e : FromSegment) → IsSound d.ranges firsts d.tables → from_at d a ≡ Some e → IsWithin d.ranges (owner_in d a) (word_at e (offset_of a))
 own_word d firsts a e s h =
-    let at : (entry_at d.tables (thread_of a) (segment_of a) ≡ Some e) × (offset_of a < e.size) = found_in d a e h in
+    let at : (entry_at d.tables (thread_of a) (segment_of a) ≡ Some e) × (offset_of a < e.size) = lies_in d a e h in
     let own : (start_of d.ranges (thread_of a % length d.ranges) ≤ e.first_word) × (e.first_word + run_of e.size ≤ start_of d.ranges (thread_of a % length d.ranges + 1)) = s.own (thread_of a) (segment_of a) e at.0 in
     let w : HasWord e (word_at e (offset_of a)) = its_word e (offset_of a) at.1 in
     (omega (arith, own.0, w.0), omega (arith, own.1, w.1))

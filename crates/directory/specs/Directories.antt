@@ -4,6 +4,7 @@ use Rattle.gc_words.specs.Layout.{thread_of, segment_of, offset_of}
 use Rattle.territory.specs.declared.territory.Targets.{Targets}
 use Rattle.territory.specs.Territories.{TerritoryView}
 use Rattle.directory.specs.declared.table.FromSegment.{FromSegment}
+use Rattle.directory.specs.declared.directory.Found.{Found}
 use Rattle.directory.specs.Tables.{entry_at, run_of, HasWord, word_at}
 
 -- What the collection does with generations; how many words each sweeper has; each thread's from-segments by
@@ -57,6 +58,15 @@ word_or_0 (Some from) offset = word_at from offset
 -- the word of an address
 abbrev pub word_in : DirectoryView → ℕ → ℕ
 word_in d a = word_or_0 (from_at d a) (offset_of a)
+
+-- what is told of an offset in a from-segment, where there is one
+abbrev pub found_in : Option FromSegment → ℕ → Option Found
+found_in None offset = None
+found_in (Some from) offset = Some (record { generation = from.generation; word = word_at from offset })
+
+-- what is told of an address
+abbrev pub found_at : DirectoryView → ℕ → Option Found
+found_at d a = found_in (from_at d a) (offset_of a)
 
 -- the word of each collected address lies in the range of its owner
 abbrev pub HasOwnWords : DirectoryView → Type 0

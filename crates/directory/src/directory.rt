@@ -3,7 +3,7 @@
 ghost use Rattle.std.specs.Prelude.{◌≡◌, ◌↔◌, ℕ, ◌+◌, ◌^◌, ◌<◌, ◌≤◌, length, slice_index, Option, IfOk, IfSome, IsSome, IsTrue};
 ghost use Rattle.directory.specs.Tables.{aside_at, shown};
 ghost use Rattle.territory.specs.Finishing.{target_of};
-ghost use Rattle.directory.specs.Directories.{from_at, from_in, owner_in, start_of, sweeper_count, word_in, AreOfThreads, HasOwnWords, HaveBegun, IsCollected, IsWithin, TellsApart};
+ghost use Rattle.directory.specs.Directories.{found_at, from_at, from_in, owner_in, start_of, sweeper_count, word_in, AreOfThreads, HasOwnWords, HaveBegun, IsCollected, IsWithin, TellsApart};
 
 use crate::numbering::{THREADS, number_threads};
 use crate::table::{FromSegment, FromTable};
@@ -11,6 +11,15 @@ use gc_words::Address;
 use std::alloc::{AllocError, Global};
 use std::marker::Model;
 use territory::{Targets, Territory};
+
+/// Where a collected object lies: the generation of its from-segment, and the word of its address.
+#[derive(Clone, Copy, Debug, PartialEq, Eq)]
+pub struct Found {
+    /// The generation that the from-segment had.
+    pub generation: u8,
+    /// The word of the address. It lies in the range of the address's owner.
+    pub word: usize,
+}
 
 /// Where the territories of a collection have their from-segments, and a word for each possible start in
 /// them. Sweeper k has the objects of the threads that leave k when divided by the number of sweepers.
@@ -47,7 +56,8 @@ fn empty_tables(alloc: Global) -> Result<Vec<FromTable>, AllocError>
 }
 
 /// The from-segment in which an address lies, by the tables of all threads.
-fn find(tables: &[FromTable], at: Address) -> Option<FromSegment>
+#[inline(always)]
+fn from_segment(tables: &[FromTable], at: Address) -> Option<FromSegment>
     requires { length tables.now ≡ 64 }
     ensures { result ≡ from_in tables.now at }
 {
@@ -115,19 +125,37 @@ impl Directory {
         self.targets.cg
     }
 
-    /// Whether an address lies in a from-segment. Asked of each reference that a collection looks at.
+    /// What is told of an address, by one look-up: None exactly where it lies in no from-segment. Asked of each
+    /// reference that a collection looks at.
+    #[inline(always)]
+    pub fn find(&self, at: Address) -> Option<Found>
+        ensures value { result ≡ found_at self.now at }
+        ensures range { IfSome result (λ f. IsWithin self.now.ranges (owner_in self.now at) f.word) }
+        ensures own { HasOwnWords self.now }
+        ensures apart { TellsApart self.now }
+    {
+        let from = from_segment(&self.tables, at)?;
+        Some(Found {
+            generation: from.generation,
+            word: from.word(at.offset()),
+        })
+    }
+
+    /// Whether an address lies in a from-segment.
+    #[inline(always)]
     pub fn collected(&self, at: Address) -> bool
         ensures { IsTrue result ↔ IsCollected self.now at }
     {
-        find(&self.tables, at).is_some()
+        from_segment(&self.tables, at).is_some()
     }
 
     /// The generation of the from-segment in which an address lies.
+    #[inline(always)]
     pub fn generation(&self, at: Address) -> u8
         requires { IsCollected self.now at }
         ensures { IfSome (from_at self.now at) (λ from. result ≡ from.generation) }
     {
-        let Some(from) = find(&self.tables, at) else {
+        let Some(from) = from_segment(&self.tables, at) else {
             unreachable!()
         };
         from.generation
@@ -135,6 +163,7 @@ impl Directory {
 
     /// Where an object of a collected generation goes: to the next generation, but at least to `min` and at
     /// most to `max` of the targets.
+    #[inline(always)]
     pub fn target(&self, generation: u8) -> u8
         requires { generation ≤ self.now.targets.cg }
         ensures value { result ≡ target_of self.now.targets generation }
@@ -153,7 +182,7 @@ impl Directory {
         ensures own { HasOwnWords self.now }
         ensures apart { TellsApart self.now }
     {
-        let Some(from) = find(&self.tables, at) else {
+        let Some(from) = from_segment(&self.tables, at) else {
             unreachable!()
         };
         from.word(at.offset())
@@ -174,6 +203,8 @@ impl Directory {
         ensures value { result ≡ slice_index self.now.ranges sweeper }
         ensures next { start_of self.now.ranges (sweeper + 1) ≡ start_of self.now.ranges sweeper + result }
         ensures fits { start_of self.now.ranges (sweeper + 1) < 2 ^ 64 }
+        ensures own { HasOwnWords self.now }
+        ensures apart { TellsApart self.now }
     {
         self.ranges[sweeper as usize]
     }

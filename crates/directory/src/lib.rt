@@ -7,7 +7,8 @@
 //!
 //! For contracts a `Directory` is its targets, its ranges and a table of from-segments for each thread.
 //! Invariant: the words of a from-segment lie in the range of its owner, and no two have a word in common.
-//! `new` alone takes memory. No call searches: a look-up is an index by thread and one by segment number.
+//! `new` alone takes memory. No call searches: a look-up is an index by thread and one by segment number, and
+//! `find` tells by one look-up all that a collection wants to know of a reference.
 #![tactic(auto)]
 
 mod directory;
@@ -16,4 +17,4 @@ mod numbering;
 mod rows;
 mod table;
 
-pub use directory::Directory;
+pub use directory::{Directory, Found};

@@ -56,6 +56,12 @@ fn all_begun(alloc: Global, targets: Targets) -> Result<Vec<Territory>, AllocErr
 
 /// The generation and the word of an address, where it is collected.
 fn seen(directory: &Directory, at: Address) -> Option<(u8, usize)> {
+    let found = directory.find(at)?;
+    Some((found.generation, found.word))
+}
+
+/// The same, by a call for each.
+fn asked(directory: &Directory, at: Address) -> Option<(u8, usize)> {
     if directory.collected(at) {
         Some((directory.generation(at), directory.word_of(at)))
     } else {
@@ -104,6 +110,11 @@ fn what_is_collected(rt: HostRuntime) -> Result<(), Fail> {
         let at = Address::new(thread, segment, offset).ok_or("an address")?;
         assert_eq!(rt;
             seen(&directory, at),
+            expected,
+            "{thread} {segment} {offset}"
+        );
+        assert_eq!(rt;
+            asked(&directory, at),
             expected,
             "{thread} {segment} {offset}"
         );

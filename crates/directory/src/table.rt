@@ -22,6 +22,7 @@ const SHARED_SIZE: u32 = 512;
 
 /// How many words a from-segment of this size gets: one for each two words of memory of a shared one, in
 /// which an object may start at each even offset. A segment of one large object gets one.
+#[inline(always)]
 pub fn run(size: u32) -> usize
     ensures { result ≡ run_of size }
 {
@@ -30,6 +31,7 @@ pub fn run(size: u32) -> usize
 
 impl FromSegment {
     /// The word of an offset in it.
+    #[inline(always)]
     pub fn word(self, offset: u32) -> usize
         requires inside { offset < self.size }
         requires fits { self.first_word + run_of self.size ≤ 2 ^ 64 }
@@ -82,6 +84,7 @@ impl FromTable {
     }
 
     /// The from-segment of a number. None where the number is of no from-segment.
+    #[inline(always)]
     pub fn entry(&self, segment: usize) -> Option<FromSegment>
         ensures { result ≡ entry_in self.now segment }
     {

@@ -1,7 +1,7 @@
 use Rattle.std.proofs.Common.{◌<◌, sym, ◌∙◌, ap, subst}
 use Rattle.directory.specs.Tables.{word_at}
 use Rattle.directory.specs.Directories.{IsWithin, owner_in}
-use Rattle.directory.proofs.Telling.{found_in, found_now, sound_now, word_fits, own_word, own_words, tells_apart}
+use Rattle.directory.proofs.Telling.{lies_in, found_now, sound_now, word_fits, own_word, own_words, tells_apart}
 use Rattle.directory.proofs.directory.Directory.word_of.Goals as goal
 
 pub word-requires : goal.word-requires
@@ -9,7 +9,7 @@ word-requires c =
     let s = sound_now _ _ _ c.self.view_is c.self.invariant.1 in
     let lies = found_now _ _ _ _ _ c.self.view_is c.deref.ensures.value c.in-Some.ensures in
     record {
-      inside = subst (λ v. v < c.in-Some.from.size) (sym c.offset.ensures.value) (found_in c.args.self.now _ _ lies).1;
+      inside = subst (λ v. v < c.in-Some.from.size) (sym c.offset.ensures.value) (lies_in c.args.self.now _ _ lies).1;
       fits = word_fits c.args.self.now _ _ _ s lies;
     }
 
