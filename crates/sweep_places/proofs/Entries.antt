@@ -1,14 +1,17 @@
 -- The table of places and the list of pairs say the same.
-use Rattle.std.proofs.Common.{◌≡◌, ◌≢◌, ℕ, ◌+◌, ◌-◌, ◌<◌, ◌≤◌, List, [], ◌∷◌, ◌++◌, length, get_or, set, slice_index, Option, None, Some, IsSome, Contains, refl, sym, ap, subst, ◌∙◌, inl, inr, arith, length-append}
-use Rattle.std.proofs.lemmas.Bool.{cases_eq}
+use Rattle.std.proofs.Common.{◌≡◌, ℕ, ◌+◌, ◌-◌, ◌<◌, ◌≤◌, List, [], ◌∷◌, ◌++◌, length, get_or, replicate, set, slice_index, Option, None, Some, IsSome, Contains, refl, sym, ap, subst, ◌∙◌, inl, inr, arith, length-append}
+use Rattle.std.proofs.lemmas.Bool.{cases_eq, cases_lt}
 use Rattle.std.proofs.lemmas.Grind.{common_steps}
-use Rattle.std.proofs.lemmas.List.{get_or_append_left, get_or_read, get_or-set_same, get_or-set_other, length-set}
+use Rattle.std.proofs.lemmas.List.{get_or_append_left, get_or_past, get_or_read, get_or-replicate, get_or-set_same, get_or-set_other, length-replicate, length-set}
 use Rattle.std.proofs.lemmas.List.Elements.{Contains-get_or}
 use Rattle.std.proofs.Math.Seq.{get_or-append_seam}
+use Rattle.gc_words.specs.declared.value.Value.{Value}
+use Rattle.gc_words.specs.declared.value.Value.TheVariants.{Fixnum, Object}
+use Rattle.gc_words.specs.Word.{value_of}
 use Rattle.directory.specs.Directories.{DirectoryView, HasOwnWords, IsWithin, TellsApart, start_of, word_in}
 use Rattle.directory.specs.declared.table.FromSegment.{FromSegment}
 use Rattle.sweep_model.specs.Hands.{IsAbsent, forwarded_at}
-use Rattle.sweep_places.specs.Places.{ArePlaces, IsOwnStart, PlacesView, not_forwarded}
+use Rattle.sweep_places.specs.Places.{ArePlaces, HasPlace, IsOwnStart, PlacesView}
 
 -- what is known is there
 is_some : (o : Option FromSegment) (x : FromSegment) → o ≡ Some x → IsSome o
@@ -37,81 +40,89 @@ new_pair own f = get_or-append_seam own f [] (0, 0)
 more : (own : List (ℕ × ℕ)) (f : ℕ × ℕ) → length (own ++ f ∷ []) ≡ length own + 1
 more own f = length-append own (f ∷ [])
 
+-- no place
+zero_is : (q : ℕ) → value_of 0 ≡ Some (Object q) → ⊥
+unfolding value_of
+zero_is q e = cc
+
+object_is : (a b : ℕ) → Some (Object a) ≡ Some (Object b) → a ≡ b
+object_is a b e = cc
+
 module _ (d : DirectoryView) (k first : ℕ) (table : List ℕ) (own : List (ℕ × ℕ)) (places : ArePlaces d k first table own)
-    (apart : TellsApart d) (within : HasOwnWords d) (a : ℕ) (start : IsOwnStart d k a) where
+    (a : ℕ) (start : IsOwnStart d k a) where
   -- an own object's entry lies in the table
-  first_below : (b : ℕ) → IsOwnStart d k b → (first ≤ word_in d b) × (word_in d b < first + length table)
+  pub first_below : (b : ℕ) → IsOwnStart d k b → (first ≤ word_in d b) × (word_in d b < first + length table)
   first_below b s =
-      let w = word_within d k b within s in
+      let w = word_within d k b places.within s in
       let r = next_range d.ranges k places.number_in in
       (omega (arith, w.0, places.first_is), omega (arith, w.1, r, places.first_is, places.size))
 
   -- an entry tells its object
   same_entry : (b : ℕ) → IsOwnStart d k b → word_in d b - first ≡ word_in d a - first → b ≡ a
-  same_entry b s e = apart b a s.start start.start
+  same_entry b s e = places.apart b a s.start start.start
       (omega (arith, e, (first_below b s).0, (first_below a start).0))
 
-  -- an entry without a number tells that the object was not forwarded
-  pub is_absent : get_or table (word_in d a - first) not_forwarded ≡ not_forwarded → IsAbsent own a
-  is_absent e = λ n h same.
-      let here : get_or table (word_in d a - first) not_forwarded ≡ n =
-      ap (λ b. get_or table (word_in d b - first) not_forwarded) (sym same) ∙ places.noted n h in
-      omega (arith, e, here, h, places.fits)
+  -- an entry without a place tells that the object was not forwarded
+  pub is_absent : ((q : ℕ) → value_of (get_or table (word_in d a - first) 0) ≡ Some (Object q) → ⊥) → IsAbsent own a
+  is_absent none = λ n h same.
+      none (forwarded_at own n).1
+      (ap (λ b. value_of (get_or table (word_in d b - first) 0)) (sym same) ∙ places.noted n h)
 
-  -- ... and a number is that of the object's pair
-  pub is_numbered : (n : ℕ) → get_or table (word_in d a - first) not_forwarded ≡ n → n ≢ not_forwarded
-      → (n < length own) × Contains own (a, (forwarded_at own n).1)
-  is_numbered n e some =
-      let at = places.shown (word_in d a - first) n e some in
-      let is_a : (forwarded_at own n).0 ≡ a =
-      apart (forwarded_at own n).0 a (places.starts n at.0).start start.start
-      (omega (arith, at.1, (first_below a start).0)) in
-      let found : Contains own (forwarded_at own n) = Contains-get_or own n (0, 0) at.0 in
-      (at.0, subst (λ x. Contains own (x, (forwarded_at own n).1)) is_a found)
-
-  -- what is read at the object's entry is the number of its pair, or tells that it has none
-  pub read : (w n : ℕ) → w ≡ word_in d a → n ≡ get_or table (w - first) n
-      → get_or table (word_in d a - first) not_forwarded ≡ n
-  read w n word is = ap (λ v. get_or table (v - first) not_forwarded) (sym word)
-      ∙ sym (get_or_read table (w - first) n (omega (arith, word, (first_below a start).0, (first_below a start).1)) is not_forwarded)
+  -- ... and a place is that of the object's pair
+  pub is_place : (q : ℕ) → value_of (get_or table (word_in d a - first) 0) ≡ Some (Object q) → Contains own (a, q)
+  is_place q e =
+      let at = places.shown (word_in d a - first) q e in
+      let is_a : (forwarded_at own at.index).0 ≡ a =
+      places.apart (forwarded_at own at.index).0 a (places.starts at.index at.below).start start.start
+      (omega (arith, at.word_is, (first_below a start).0)) in
+      let found : Contains own (forwarded_at own at.index) = Contains-get_or own at.index (0, 0) at.below in
+      subst (λ x. Contains own (x, q)) is_a (subst (λ y. Contains own ((forwarded_at own at.index).0, y)) at.place_is found)
 
   -- another place noted
-  pub noted : (p : ℕ) → IsAbsent own a → length own < not_forwarded
-      → ArePlaces d k first (set table (word_in d a - first) (length own)) (own ++ (a, p) ∷ [])
-  noted p absent fits = record {
+  pub noted : (p word : ℕ) → IsAbsent own a → value_of word ≡ Some (Object p)
+      → ArePlaces d k first (set table (word_in d a - first) word) (own ++ (a, p) ∷ [])
+  noted p word absent is = record {
     number_in = places.number_in;
     first_is = places.first_is;
-    size = length-set table entry (length own) ∙ places.size;
-    fits = omega (arith, fits, more own (a, p));
+    size = length-set table entry word ∙ places.size;
+    within = places.within;
+    apart = places.apart;
     starts = λ n h. elim (cases_eq n (length own)) [
       | inl e ↦ subst (λ f. IsOwnStart d k f.0) (sym (ap (forwarded_at (own ++ (a, p) ∷ [])) e ∙ new_pair own (a, p))) start
       | inr ne ↦ let below : n < length own = omega (arith, h, more own (a, p), ne) in
           subst (λ f. IsOwnStart d k f.0) (sym (old_pair own (a, p) n below)) (places.starts n below)
     ];
-    shown = λ w n e some. elim (cases_eq w entry) [
+    shown = λ w q e. elim (cases_eq w entry) [
       | inl same ↦
-          let put : get_or (set table entry (length own)) w not_forwarded ≡ length own =
-          ap (λ j. get_or (set table entry (length own)) j not_forwarded) same ∙ get_or-set_same table entry (length own) not_forwarded inside in
-          let last : n ≡ length own = sym e ∙ put in (
-            omega (arith, last, more own (a, p)),
-            ap (λ m. word_in d (forwarded_at (own ++ (a, p) ∷ []) m).0) last
-                ∙ ap (λ f. word_in d f.0) (new_pair own (a, p)) ∙ omega (arith, same, (first_below a start).0),
-          )
+          let put : value_of (get_or (set table entry word) w 0) ≡ Some (Object p) =
+          ap (λ j. value_of (get_or (set table entry word) j 0)) same
+          ∙ (ap value_of (get_or-set_same table entry word 0 inside) ∙ is) in
+          record {
+            index = length own;
+            below = omega (arith, more own (a, p));
+            word_is = ap (λ f. word_in d f.0) (new_pair own (a, p)) ∙ omega (arith, same, (first_below a start).0);
+            place_is = ap (λ f. f.1) (new_pair own (a, p)) ∙ object_is p q (sym put ∙ e);
+          }
       | inr ne ↦
-          let was = places.shown w n (sym (get_or-set_other table entry w (length own) not_forwarded ne) ∙ e) some in
-          (omega (arith, was.0, more own (a, p)), ap (λ f. word_in d f.0) (old_pair own (a, p) n was.0) ∙ was.1)
+          let was = places.shown w q (ap value_of (sym (get_or-set_other table entry w word 0 ne)) ∙ e) in
+          record {
+            index = was.index;
+            below = omega (arith, was.below, more own (a, p));
+            word_is = ap (λ f. word_in d f.0) (old_pair own (a, p) was.index was.below) ∙ was.word_is;
+            place_is = ap (λ f. f.1) (old_pair own (a, p) was.index was.below) ∙ was.place_is;
+          }
     ];
     noted = λ n h. elim (cases_eq n (length own)) [
       | inl e ↦
-          ap (λ m. get_or (set table entry (length own)) (word_in d (forwarded_at (own ++ (a, p) ∷ []) m).0 - first) not_forwarded) e
-          ∙ ap (λ f. get_or (set table entry (length own)) (word_in d f.0 - first) not_forwarded) (new_pair own (a, p))
-          ∙ get_or-set_same table entry (length own) not_forwarded inside ∙ sym e
+          let f : forwarded_at (own ++ (a, p) ∷ []) n ≡ (a, p) = ap (forwarded_at (own ++ (a, p) ∷ [])) e ∙ new_pair own (a, p) in
+          ap (λ f. value_of (get_or (set table entry word) (word_in d f.0 - first) 0)) f
+          ∙ (ap value_of (get_or-set_same table entry word 0 inside) ∙ (is ∙ ap (λ f. Some (Object f.1)) (sym f)))
       | inr ne ↦
           let below : n < length own = omega (arith, h, more own (a, p), ne) in
-          ap (λ f. get_or (set table entry (length own)) (word_in d f.0 - first) not_forwarded) (old_pair own (a, p) n below)
-          ∙ get_or-set_other table entry (word_in d (forwarded_at own n).0 - first) (length own) not_forwarded
-          (λ same. absent n below (same_entry (forwarded_at own n).0 (places.starts n below) same))
-          ∙ places.noted n below
+          ap (λ f. value_of (get_or (set table entry word) (word_in d f.0 - first) 0)) (old_pair own (a, p) n below)
+          ∙ (ap value_of (get_or-set_other table entry (word_in d (forwarded_at own n).0 - first) word 0
+          (λ same. absent n below (same_entry (forwarded_at own n).0 (places.starts n below) same)))
+          ∙ (places.noted n below ∙ ap (λ f. Some (Object f.1)) (sym (old_pair own (a, p) n below))))
     ];
   }
     where
@@ -121,15 +132,67 @@ module _ (d : DirectoryView) (k first : ℕ) (table : List ℕ) (own : List (ℕ
       inside : entry < length table
       inside = omega (arith, (first_below a start).0, (first_below a start).1)
 
--- The same of what contracts see: the entry of an own object, by the word that the directory tells, is without a number or
--- has that of the object's pair.
-pub found : (p v : PlacesView) (dir : DirectoryView) (first : ℕ) (table : List ℕ) (a w n : ℕ)
-    → ArePlaces p.directory p.number first table p.own → p ≡ v → v.directory ≡ dir → HasOwnWords dir → TellsApart dir
-    → IsOwnStart v.directory v.number a → w ≡ word_in dir a → n ≡ get_or table (w - first) n → n ≢ not_forwarded
-    → (n < length p.own) × Contains p.own (a, (forwarded_at p.own n).1)
-found p v dir first table a w n places view same within apart start word is some =
-    let d : dir ≡ p.directory = sym (ap (λ (x : PlacesView). x.directory) view ∙ same) in
-    let own = subst (λ (x : PlacesView). IsOwnStart x.directory x.number a) (sym view) start in
-    is_numbered p.directory p.number first table p.own places (subst TellsApart d apart) (subst HasOwnWords d within) a own n
-    (read p.directory p.number first table p.own places (subst TellsApart d apart) (subst HasOwnWords d within) a own w n
-    (word ∙ ap (λ x. word_in x a) d) is) some
+zeros : (count w : ℕ) → get_or (replicate {A = ℕ} count 0) w 0 ≡ 0
+zeros count w = elim (cases_lt w count) [
+  | inl below ↦ get_or-replicate count w 0 0 below
+  | inr past ↦ get_or_past (replicate count 0) w 0 (omega (arith, past, length-replicate {A = ℕ} count 0))
+]
+
+-- no place at first
+pub none_noted : (d : DirectoryView) (number first count : ℕ) → number < length d.ranges → first ≡ start_of d.ranges number
+    → count ≡ slice_index d.ranges number → HasOwnWords d → TellsApart d → ArePlaces d number first (replicate count 0) []
+none_noted d number first count number_in first_is size within apart = record {
+  number_in = number_in;
+  first_is = first_is;
+  size = length-replicate {A = ℕ} count 0 ∙ size;
+  within = within;
+  apart = apart;
+  starts = λ n h. absurd (omega (arith, h));
+  shown = λ w q e. absurd (zero_is q (ap value_of (sym (zeros count w)) ∙ e));
+  noted = λ n h. absurd (omega (arith, h));
+}
+
+-- ---- what is read at the entry of an object, by the word that was told
+
+module _ (p v : PlacesView) (first : ℕ) (table : List ℕ) (a w e : ℕ) (places : ArePlaces p.directory p.number first table p.own)
+    (view : p ≡ v) (own : IsOwnStart v.directory v.number a) (word : w ≡ word_in v.directory a)
+    (is : e ≡ get_or table (w - first) e) where
+  its_own : IsOwnStart p.directory p.number a
+  its_own = subst (λ (x : PlacesView). IsOwnStart x.directory x.number a) (sym view) own
+
+  its_word : w ≡ word_in p.directory a
+  its_word = word ∙ sym (ap (λ (x : PlacesView). word_in x.directory a) view)
+
+  -- it lies in the table
+  pub entry_inside : (first ≤ w) × (w - first < length table)
+  entry_inside =
+      let b = first_below p.directory p.number first table p.own places a its_own a its_own in
+      (omega (arith, b.0, its_word), omega (arith, b.0, b.1, its_word))
+
+  read : get_or table (word_in p.directory a - first) 0 ≡ e
+  read = ap (λ n. get_or table (n - first) 0) (sym its_word) ∙ sym (get_or_read table (w - first) e entry_inside.1 is 0)
+
+  -- a place is the object's
+  pub place_found : (q : ℕ) → value_of e ≡ Some (Object q) → Contains v.own (a, q)
+  place_found q h =
+      subst (λ (x : PlacesView). Contains x.own (a, q)) view
+      (is_place p.directory p.number first table p.own places a its_own q (ap value_of read ∙ h))
+
+  -- and else it has none
+  pub none_found : ((q : ℕ) → value_of e ≡ Some (Object q) → ⊥) → IsAbsent v.own a
+  none_found none =
+      subst (λ (x : PlacesView). IsAbsent x.own a) view
+      (is_absent p.directory p.number first table p.own places a its_own (λ q h. none q (ap value_of (sym read) ∙ h)))
+
+-- another place noted there
+pub noted_there : (p v : PlacesView) (first : ℕ) (table : List ℕ) (a w e q : ℕ) (own : List (ℕ × ℕ))
+    → ArePlaces p.directory p.number first table p.own → p ≡ v → IsOwnStart v.directory v.number a → w ≡ word_in v.directory a
+    → IsAbsent v.own a → value_of e ≡ Some (Object q) → own ≡ p.own ++ (a, q) ∷ []
+    → ArePlaces p.directory p.number first (set table (w - first) e) own
+noted_there p v first table a w e q own places view start word absent is more_is =
+    subst (ArePlaces p.directory p.number first (set table (w - first) e)) (sym more_is)
+    (subst (λ n. ArePlaces p.directory p.number first (set table (n - first) e) (p.own ++ (a, q) ∷ []))
+    (sym (word ∙ sym (ap (λ (x : PlacesView). word_in x.directory a) view)))
+    (noted p.directory p.number first table p.own places a
+    (subst (λ (x : PlacesView). IsOwnStart x.directory x.number a) (sym view) start) q e
+    (subst (λ (x : PlacesView). IsAbsent x.own a) (sym view) absent) is))

@@ -1,53 +1,74 @@
 //! The places of a sweeper's own objects.
 
-ghost use Rattle.std.specs.Prelude.{◌≡◌, ◌<◌, [], ◌∷◌, ◌++◌, Contains, IfOk, MatchOption, None, OnErr, OnOk, length, replicate};
-ghost use Rattle.directory.specs.Directories.{sweeper_count};
-ghost use Rattle.sweep_model.specs.Hands.{IsAbsent, forwarded_at};
-ghost use Rattle.sweep_places.specs.Places.{IsOwnStart, not_forwarded};
+ghost use Rattle.std.specs.Prelude.{◌≡◌, ◌+◌, ◌^◌, ◌<◌, [], ◌∷◌, ◌++◌, Contains, IfNone, IfOk, IfSome, MatchOption, OnErr, OnOk, length, replicate};
+ghost use Rattle.directory.specs.Directories.{sweeper_count, word_in};
+ghost use Rattle.sweep_model.specs.Hands.{IsAbsent};
+ghost use Rattle.sweep_places.specs.Places.{IsOwnStart};
 
 use directory::Directory;
-use gc_words::Address;
+use gc_words::{Address, Value, decode, encode};
+use http_server::Log;
 use std::alloc::{AllocError, Global};
 use std::marker::Model;
 use std::snapshot::Snapshot;
 
-/// What the table has for an object that was not forwarded: no pair has this number.
-const NOT_FORWARDED: u32 = u32::MAX;
+/// What the table has for an object that was not forwarded. It is the word of a number.
+const NO_PLACE: u64 = 0;
 
-/// The pairs of an object and its place, and a table of their numbers by word. The numbers take 4 bytes for each possible
-/// start, and a place would take 16.
+/// A table of places by word, and what is not swept.
 #[derive(Drop)]
 pub struct Places {
     number: u32,
     directory: Snapshot<Directory>,
     /// The first word of the sweeper's range.
     first: usize,
-    table: Vec<u32>,
-    forwards: Vec<(Address, Address)>,
+    /// For each word of the range what a field that referred to its object is to hold, or `NO_PLACE`.
+    table: Vec<u64>,
+    /// How many objects were forwarded.
+    count: u64,
+    /// Those that are not swept, with their places.
+    unswept: Vec<(Address, Address)>,
+    /// All pairs in the order of forwarding. Proofs alone read them: the log has no bytes.
+    own: Log<Address, Address>,
 }
 
 impl Model for Places {
+    ghost use Rattle.std.specs.Prelude.{◌≡◌, length};
     ghost use Rattle.sweep_places.specs.Places.{ArePlaces, PlacesView};
 
     ghost Value = { PlacesView };
 
-    ghost view = { λ p. record { number = p.number; directory = p.directory.value; own = p.forwards.items } };
+    ghost view = { λ p. record {
+      number = p.number;
+      directory = p.directory.value;
+      own = p.own.items;
+      unswept = p.unswept.items;
+    } };
 
-    ghost invariant = { λ p. ArePlaces p.directory.value p.number p.first p.table.items p.forwards.items };
+    ghost invariant = { λ p. ArePlaces p.directory.value p.number p.first p.table.items p.own.items
+        × (p.count ≡ length p.own.items) };
 }
 
 /// A table of objects that were not forwarded.
-fn empty_table(alloc: Global, count: usize) -> Result<Vec<u32>, AllocError>
-    ensures { IfOk result (λ v. v.items ≡ replicate count not_forwarded) }
+fn empty_table(alloc: Global, count: usize) -> Result<Vec<u64>, AllocError>
+    ensures { IfOk result (λ v. v.items ≡ replicate count 0) }
 {
-    vec![in alloc; NOT_FORWARDED; count]
+    vec![in alloc; NO_PLACE; count]
+}
+
+/// One more. Err where a `u64` doesn't count so far.
+fn one_more(count: u64) -> Result<u64, AllocError>
+    ensures value { IfOk result (λ n. n ≡ count + 1) }
+    ensures few { IfOk result (λ n. n < 2 ^ 64) }
+{
+    count.checked_add(1).ok_or(AllocError)
 }
 
 impl Places {
     /// Places of which none is known yet, for a sweeper of this directory. Takes memory for each of its words.
     pub fn new(alloc: Global, directory: &Directory, number: u32) -> Result<Places, AllocError>
         requires { number < sweeper_count directory.now }
-        ensures { IfOk result (λ p. p ≡ record { number = number; directory = directory.now; own = [] }) }
+        ensures { IfOk result (λ p. p ≡ record { number = number; directory = directory.now; own = []; unswept = [] }) }
     {
         let first = directory.first_word(number);
         let table = empty_table(alloc, directory.range(number))?;
@@ -56,59 +77,64 @@ impl Places {
             directory: Snapshot::of(directory),
             first,
             table,
-            forwards: Vec::new(alloc),
+            count: 0,
+            unswept: Vec::new(alloc),
+            own: Log::new(),
         })
     }
 
     /// How many objects were forwarded.
-    pub fn len(&self) -> usize
+    pub fn len(&self) -> u64
         ensures { result ≡ length self.now.own }
     {
-        self.forwards.len()
+        self.count
     }
 
-    /// The object that was forwarded as number n, and its place.
-    pub fn forwarded(&self, n: usize) -> (Address, Address)
-        requires { n < length self.now.own }
-        ensures { result ≡ forwarded_at self.now.own n }
-    {
-        self.forwards[n]
-    }
-
-    /// The place of an object of its own. None exactly where it was not forwarded.
-    pub fn place_of(&self, at: Address, directory: &Directory) -> Option<Address>
-        requires same { self.now.directory ≡ directory.now }
+    /// The place of an object of its own, of which `word` is the word in the directory. None exactly where it was not
+    /// forwarded.
+    #[inline(always)]
+    pub fn place_of(&self, at: Address, word: usize) -> Option<Address>
+        requires word_is { word ≡ word_in self.now.directory at }
         requires own { IsOwnStart self.now.directory self.now.number at }
         ensures { MatchOption result (IsAbsent self.now.own at) (λ place. Contains self.now.own (at, place)) }
     {
-        let n = self.table[directory.word_of(at) - self.first];
-        if n == NOT_FORWARDED {
-            return None;
+        match decode(self.table[word - self.first])? {
+            Value::Object(place) => Some(place),
+            _ => None,
         }
-        Some(self.forwards[n as usize].1)
     }
 
-    /// Notes the place of an object of its own, which was not forwarded before. Err where memory is refused, or would be
-    /// asked for more than 2^32 - 1 pairs, which changes nothing.
-    pub fn note(
-        &mut self,
-        at: Address,
-        place: Address,
-        directory: &Directory,
-    ) -> Result<(), AllocError>
-        requires same { self.old.directory ≡ directory.now }
+    /// Notes the place of an object of its own, which was not forwarded before and is to be swept. Err where memory is
+    /// refused, or where there would be more objects than a `u64` counts; it changes nothing.
+    #[inline(always)]
+    pub fn note(&mut self, at: Address, word: usize, place: Address) -> Result<(), AllocError>
+        requires word_is { word ≡ word_in self.old.directory at }
         requires own { IsOwnStart self.old.directory self.old.number at }
         requires absent { IsAbsent self.old.own at }
-        ensures ok { OnOk result (self.new ≡ record self.old { own = self.old.own ++ (at, place) ∷ [] }) }
+        ensures ok { OnOk result (self.new ≡ record self.old {
+            own = self.old.own ++ (at, place) ∷ [];
+            unswept = self.old.unswept ++ (at, place) ∷ [];
+        }) }
+        ensures few { OnOk result (length self.old.own + 1 < 2 ^ 64) }
         ensures err { OnErr result (self.new ≡ self.old) }
     {
-        let entry = directory.word_of(at) - self.first;
-        let n = self.forwards.len();
-        if n >= NOT_FORWARDED as usize {
-            return Err(AllocError);
-        }
-        self.forwards.push((at, place))?;
-        self.table[entry] = n as u32;
+        let count = one_more(self.count)?;
+        self.unswept.push((at, place))?;
+        let entry = word - self.first;
+        self.table[entry] = encode(Value::Object(place));
+        self.count = count;
+        self.own = self.own.and(&at, &place);
         Ok(())
+    }
+
+    /// Takes the object that was forwarded last of those that are not swept, with its place, to be swept. None exactly
+    /// where all are swept.
+    #[inline(always)]
+    pub fn take_unswept(&mut self) -> Option<(Address, Address)>
+        ensures some { IfSome result (λ f. self.old.unswept ≡ self.new.unswept ++ f ∷ []) }
+        ensures none { IfNone result (self.old.unswept ≡ []) }
+        ensures rest { self.new ≡ record self.old { unswept = self.new.unswept } }
+    {
+        self.unswept.pop()
     }
 }

@@ -1,7 +1,7 @@
 //! What no clause says: that places are made, and one is noted, where there is memory.
 
-ghost use Rattle.std.specs.Prelude.{◌≡◌, ◌≤◌, ◌<◌, IfOk, IsTrue};
-ghost use Rattle.directory.specs.Directories.{AreOfThreads, HaveBegun};
+ghost use Rattle.std.specs.Prelude.{◌≡◌, ◌≤◌, ◌<◌, IfOk, IfSome};
+ghost use Rattle.directory.specs.Directories.{AreOfThreads, HaveBegun, word_in};
 ghost use Rattle.sweep_places.specs.Places.{IsOwnStart};
 
 use crate::Places;
@@ -42,13 +42,19 @@ fn all_begun(alloc: Global, targets: Targets) -> Result<Vec<Territory>, AllocErr
     Ok(territories)
 }
 
-/// Whether the first object of a segment is one of a sweeper's own.
-fn is_own_start(directory: &Directory, number: u32, at: Address) -> bool
-    ensures { IsTrue result → IsOwnStart directory.now number at }
+/// What the directory tells of the first object of a segment, where it is one of a sweeper's own.
+fn own_start(directory: &Directory, number: u32, at: Address) -> Option<usize>
+    ensures own { IfSome result (λ word. IsOwnStart directory.now number at) }
+    ensures word { IfSome result (λ word. word ≡ word_in directory.now at) }
 {
-    directory.collected(at)
+    if directory.collected(at)
         && at.offset() == 0
         && u32::from(at.thread()) % directory.sweepers() == number
+    {
+        Some(directory.word_of(at))
+    } else {
+        None
+    }
 }
 
 #[test]
@@ -64,8 +70,11 @@ fn a_place_is_noted(rt: HostRuntime) -> Result<(), Fail> {
     let mut places = Places::new(alloc, &directory, 2)?;
     let at = Address::new(5, 0, 0).ok_or("an address")?;
     let place = Address::new(5, 1, 0).ok_or("an address")?;
-    assert!(rt; is_own_start(&directory, 2, at));
-    places.note(at, place, &directory)?;
-    assert_eq!(rt; places.place_of(at, &directory), Some(place));
+    let word = own_start(&directory, 2, at).ok_or("an object of its own")?;
+    places.note(at, word, place)?;
+    assert_eq!(rt; places.place_of(at, word), Some(place));
+    assert_eq!(rt; places.len(), 1);
+    assert_eq!(rt; places.take_unswept(), Some((at, place)));
+    assert_eq!(rt; places.take_unswept(), None);
     Ok(())
 }
