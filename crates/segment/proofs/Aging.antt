@@ -1,5 +1,5 @@
 -- The cards of older objects: a segment with raised cards is sound, and where a word under a dirty card is found.
-use Rattle.std.proofs.Common.{◌≡◌, ℕ, ◌+◌, ◌*◌, ◌<◌, ◌≤◌, Bool, false, List, length, get_or, sym, ◌∙◌, ap, subst, arith}
+use Rattle.std.proofs.Common.{◌≡◌, ℕ, ◌+◌, ◌-◌, ◌*◌, ◌<◌, ◌≤◌, Bool, false, List, length, get_or, take, drop, sym, ◌∙◌, ap, subst, arith}
 use Rattle.std.proofs.lemmas.List.{get_or_read}
 use Rattle.gc_words.specs.declared.address.TheConstants.{OFFSETS}
 use Rattle.trace_types.specs.declared.kind.Kind.{Kind}
@@ -31,16 +31,31 @@ raised_seen p now limit to cards dirty h e used is marked =
     let s : IsSound (raised limit to p) = IsSound-raised p limit to h (ap (λ (v : Segment). is_free v.role) e ∙ used) in
     subst (λ (v : Bool). IsSound (record p { is_dirty = v; cards = cards })) (sym marked) (subst (λ (v : List ℕ). IsSound (record p { is_dirty = has_mark v; cards = v })) (sym is) s)
 
--- a start's words lie in the segment
-pub start_fits : (p now : Segment) (k : ℕ) → IsSound p → p ≡ now → IsStart now k → (2 * k + skip_of p.space + length (words_at now k) ≤ OFFSETS) × (2 * k < length p.words)
-start_fits p now k h e start =
+-- the words of a start lie in the segment
+pub words_fit : (p now : Segment) (k : ℕ) → IsSound p → p ≡ now → IsStart now k
+    → (2 * k + skip_of p.space + length (words_at now k) ≤ length p.words) × ((2 * k < length p.words) × (length (words_at now k) ≡ count_of p.space (first_at p k)))
+words_fit p now k h e start =
     let start' : IsStart p k = subst (λ (v : Segment). IsStart v k) (sym e) start in
     let within : (k < length p.births) × _ × _ = start_in p k h.laid start'.1 in
     let count : length (words_at p k) ≡ count_of p.space (first_at p k) = words_length p k h.laid start'.1 in
     let same : length (words_at now k) ≡ length (words_at p k) = ap (λ (v : Segment). length (words_at v k)) (sym e) in (
-      omega (arith, size_covers p.space (first_at p k), within.1, within.2, h.small),
-      omega (arith, h.births),
+      omega (arith, size_covers p.space (first_at p k), within.1, within.2),
+      (omega (arith, h.births), same ∙ count),
     )
+
+-- ... and so at offsets that an address has
+pub start_fits : (p now : Segment) (k : ℕ) → IsSound p → p ≡ now → IsStart now k → (2 * k + skip_of p.space + length (words_at now k) ≤ OFFSETS) × (2 * k < length p.words)
+start_fits p now k h e start = let fit = words_fit p now k h e start in (omega (arith, fit.0, h.small), fit.1.0)
+
+-- the part of the segment's words that begins at the first word of a start is its words
+pub fields_are : (p now : Segment) (k s n : ℕ) (words : List ℕ) → IsSound p → p ≡ now → IsStart now k → s ≡ skip_of p.space → n ≡ length (words_at now k)
+    → words ≡ p.words → take (2 * k + s + n - (2 * k + s)) (drop (2 * k + s) words) ≡ words_at now k
+fields_are p now k s n words h e start is count read =
+    let long : 2 * k + s + n - (2 * k + s) ≡ count_of p.space (first_at p k) = omega (arith, count, (words_fit p now k h e start).1.1) in
+    ap (λ v. take v (drop (2 * k + s) words)) long
+    ∙ (ap (λ v. take (count_of p.space (first_at p k)) (drop (2 * k + v) words)) is
+    ∙ (ap (λ (v : List ℕ). take (count_of p.space (first_at p k)) (drop (2 * k + skip_of p.space) v)) read
+    ∙ ap (λ (v : Segment). words_at v k) e))
 
 pub count_is : (p now : Segment) (k first n count : ℕ) (kind : Kind) → IsSound p → p ≡ now → IsStart now k → first ≡ get_or p.words (2 * k) first → kind ≡ kind_of p.space first → n ≡ length_of p.space first → count ≡ words_after kind n → count ≡ length (words_at now k)
 unfolding count_of

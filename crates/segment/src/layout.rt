@@ -33,6 +33,7 @@ fn code(kind: Kind) -> u64
 }
 
 /// The kind of a code in a header. No header has a code above 6.
+#[inline(always)]
 fn kind_of_code(code: u64) -> Kind
     ensures { result ≡ kind_of_code code }
 {
@@ -61,6 +62,7 @@ pub fn first_word(kind: Kind, length: u32) -> u64
 
 /// The kind of the object with this first word.
 #[tactic(auto, unfolding(crate::specs::Layout::kind_of))]
+#[inline(always)]
 pub(crate) fn kind_of(space: Space, first: u64) -> Kind
     ensures { result ≡ kind_of space first }
 {
@@ -77,6 +79,7 @@ pub(crate) fn kind_of(space: Space, first: u64) -> Kind
 
 /// The fields or bytes of the object with this first word; of a guardian none.
 #[tactic(auto, unfolding(crate::specs::Layout::length_of))]
+#[inline(always)]
 pub(crate) fn length_of(space: Space, first: u64) -> u64
     ensures value { result ≡ length_of space first }
     ensures range { result < 72057594037927936 }
@@ -89,6 +92,7 @@ pub(crate) fn length_of(space: Space, first: u64) -> u64
 }
 
 /// The words after the header of an object of this kind and length, for a length below 2^56.
+#[inline(always)]
 pub fn words_after(kind: Kind, length: u64) -> u64
     requires { length < 72057594037927936 }
     ensures value { result ≡ words_after kind length }
@@ -105,6 +109,7 @@ pub fn words_after(kind: Kind, length: u64) -> u64
 
 /// All words of the object with this first word: an even number.
 #[tactic(auto, unfolding(crate::specs::Layout::count_of, crate::specs::Layout::size_of))]
+#[inline(always)]
 pub fn size(space: Space, first: u64) -> usize
     ensures { result ≡ size_of space first }
 {

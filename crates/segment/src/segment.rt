@@ -86,6 +86,7 @@ impl Model for Segment {
 
 impl Segment {
     /// The space of its objects.
+    #[inline(always)]
     pub fn space(&self) -> Space
         ensures { result ≡ self.now.space }
     {
@@ -93,6 +94,7 @@ impl Segment {
     }
 
     /// The generation of its objects.
+    #[inline(always)]
     pub fn generation(&self) -> u8
         ensures { result ≡ self.now.generation }
     {
@@ -100,6 +102,7 @@ impl Segment {
     }
 
     /// What it is for.
+    #[inline(always)]
     pub fn role(&self) -> Role
         ensures { result ≡ self.now.role }
     {
@@ -142,6 +145,7 @@ impl Segment {
     }
 
     /// Whether an object of so many words fits at the top.
+    #[inline(always)]
     pub fn has_room(&self, size: usize) -> bool
         ensures { IsTrue result ↔ HasRoom self.now size }
     {
@@ -156,6 +160,7 @@ impl Segment {
     }
 
     /// The kind of what starts at offset 2 k.
+    #[inline(always)]
     pub fn kind(&self, k: usize) -> Kind
         requires { IsStart self.now k }
         ensures { result ≡ (object_at self.now k).kind }
@@ -164,6 +169,7 @@ impl Segment {
     }
 
     /// Its length, in fields or in bytes; of a guardian 0, of a cell 2.
+    #[inline(always)]
     pub fn length(&self, k: usize) -> u64
         requires { IsStart self.now k }
         ensures { result ≡ (object_at self.now k).length }
@@ -172,6 +178,7 @@ impl Segment {
     }
 
     /// Its birth: the line that made it.
+    #[inline(always)]
     pub fn birth(&self, k: usize) -> u32
         requires { IsStart self.now k }
         ensures { result ≡ (object_at self.now k).birth }
@@ -180,6 +187,7 @@ impl Segment {
     }
 
     /// A word of it, counted after the header.
+    #[inline(always)]
     pub fn word(&self, k: usize, index: usize) -> u64
         requires start { IsStart self.now k }
         requires index_in { index < length (object_at self.now k).words }
@@ -189,7 +197,20 @@ impl Segment {
         self.words[2 * k + skip + index]
     }
 
+    /// All its words, after the header; for byte objects the bytes, eight a word.
+    #[inline(always)]
+    pub fn fields(&self, k: usize) -> &[u64]
+        requires { IsStart self.now k }
+        ensures { result.now ≡ (object_at self.now k).words }
+    {
+        let count = self.count(k);
+        let skip = self.space.skip();
+        let from = 2 * k + skip;
+        &self.words[from..from + count]
+    }
+
     /// Puts another word there.
+    #[inline(always)]
     pub fn put(&mut self, k: usize, index: usize, word: u64)
         requires start { IsStart self.old k }
         requires index_in { index < length (object_at self.old k).words }

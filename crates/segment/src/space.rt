@@ -46,6 +46,7 @@ impl Space {
     }
 
     /// The number of the space, 0 to 7: spaces have an order, for tables by space.
+    #[inline(always)]
     pub fn index(self) -> usize
         ensures value { result ≡ space_index self }
         ensures range { result < 8 }
@@ -63,6 +64,7 @@ impl Space {
     }
 
     /// Whether objects of the space begin with a header.
+    #[inline(always)]
     pub fn has_header(self) -> bool
         ensures { result ≡ has_header self }
     {
@@ -73,6 +75,7 @@ impl Space {
     }
 
     /// How many words stand before the fields: 1 for a header, else 0.
+    #[inline(always)]
     pub(crate) fn skip(self) -> usize
         ensures value { result ≡ skip_of self }
         ensures range { result ≤ 1 }

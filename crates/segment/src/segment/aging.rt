@@ -39,7 +39,8 @@ impl Segment {
 
     /// How many words start k has, its header not counted.
     #[tactic(auto, unfolding(crate::specs::Layout::count_of))]
-    fn count(&self, k: usize) -> usize
+    #[inline(always)]
+    pub(super) fn count(&self, k: usize) -> usize
         requires { IsStart self.now k }
         ensures { result ≡ length (object_at self.now k).words }
     {

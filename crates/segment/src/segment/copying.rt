@@ -10,6 +10,7 @@ use crate::layout::size;
 
 impl Segment {
     /// How many words a start takes, its header among them.
+    #[inline(always)]
     pub fn size(&self, k: usize) -> usize
         requires { IsStart self.now k }
         ensures { result ≡ size_at self.now k }
@@ -18,6 +19,7 @@ impl Segment {
     }
 
     /// The first two words of a start, which may be all.
+    #[inline(always)]
     pub fn two_words(&self, k: usize) -> (u64, u64)
         requires { IsStart self.now k }
         ensures first { result.0 ≡ slice_index self.now.words (2 * k) }
@@ -27,6 +29,7 @@ impl Segment {
     }
 
     /// Makes an object of these two words at the top, and gives its offset. Takes no memory.
+    #[inline(always)]
     pub fn grow_two(&mut self, first: u64, second: u64, birth: u32) -> usize
         requires room { HasRoom self.old 2 }
         requires size_is { size_of self.old.space first ≡ 2 }
