@@ -175,6 +175,15 @@ impl Share {
         self.territory_of(at).length(at)
     }
 
+    /// All its words after the header: of a byte object eight bytes each.
+    #[inline(always)]
+    pub fn fields(&self, at: Address) -> &[u64]
+        requires { IsSome (start_in self.now at) }
+        ensures { result.now ≡ words_of (start_in self.now at) }
+    {
+        self.territory_of(at).fields(at)
+    }
+
     /// A word of it, counted after the header.
     #[inline(always)]
     pub fn word(&self, at: Address, index: u32) -> u64

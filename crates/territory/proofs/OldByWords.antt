@@ -1,5 +1,5 @@
 -- A start with a word under a marked card is an old one.
-use Rattle.std.proofs.Common.{◌≡◌, ℕ, ◌+◌, ◌*◌, ◌/◌, ◌<◌, ◌≤◌, false, length, get_or, Some, IsSome, refl, sym, ◌∙◌, ap, subst, arith}
+use Rattle.std.proofs.Common.{◌≡◌, ℕ, ◌+◌, ◌*◌, ◌/◌, ◌<◌, ◌≤◌, false, length, get_or, IsSome, refl, sym, ◌∙◌, ap, subst, arith}
 use Rattle.std.proofs.lemmas.Option.{same_Some}
 use Rattle.std.specs.FinMap.{get}
 use Rattle.gc_words.specs.Layout.{segment_of, offset_of}
@@ -9,7 +9,7 @@ use Rattle.segment.specs.Layout.{skip_of, space_of, words_after}
 use Rattle.segment.specs.Segments.{Segment, Start, is_free, first_at, object_at, words_at}
 use Rattle.segment.proofs.Calls.{card_seen}
 use Rattle.territory.specs.declared.territory.Targets.{Targets}
-use Rattle.territory.specs.Territories.{TerritoryView, byte_at, card_byte, segment_at, size_for}
+use Rattle.territory.specs.Territories.{TerritoryView, byte_at, segment_at, size_for}
 use Rattle.territory.specs.Pools.{PoolView, IsSettled, numbered, seen, territory_view}
 use Rattle.territory.specs.Olds.{AreOldByWords, IsMarkedAt}
 use Rattle.territory.proofs.Numbers.{seen_at}

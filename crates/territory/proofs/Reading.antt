@@ -1,5 +1,5 @@
 -- What a territory tells of a start. `q` is the segment that was read, and k the number of the start in it.
-use Rattle.std.proofs.Common.{◌≡◌, ◌≢◌, ℕ, ◌/◌, ◌%◌, ◌<◌, ◌≤◌, length, get_or, Option, Some, None, IsSome, IfSome, refl, sym, ◌∙◌, ap, subst, arith}
+use Rattle.std.proofs.Common.{◌≡◌, ◌≢◌, ℕ, ◌/◌, ◌%◌, ◌<◌, ◌≤◌, List, length, get_or, Option, Some, None, IsSome, IfSome, refl, sym, ◌∙◌, ap, subst, arith}
 use Rattle.std.specs.FinMap.{get}
 use Rattle.gc_words.specs.declared.address.TheConstants.{THREADS}
 use Rattle.gc_words.specs.Layout.{thread_of, segment_of, offset_of}
@@ -78,6 +78,9 @@ index_in thread pool now a k index q i h = subst (λ (x : Start). index < length
 
 pub word_is : (thread : ℕ) (pool : PoolView) (now : TerritoryView) (a k index r : ℕ) (q : Segment) → IsAt thread pool now a k q → r ≡ get_or (object_at q k).words index 0 → r ≡ get_or (words_of (get now.starts a)) index 0
 word_is thread pool now a k index r q i e = e ∙ (ap (λ (x : Start). get_or x.words index 0) (sym i.object) ∙ ap (λ o. get_or (words_of o) index 0) (sym i.reached.has))
+
+pub fields_are : (thread : ℕ) (pool : PoolView) (now : TerritoryView) (a k : ℕ) (q : Segment) (r : List ℕ) → IsAt thread pool now a k q → r ≡ (object_at q k).words → r ≡ words_of (get now.starts a)
+fields_are thread pool now a k q r i e = e ∙ (ap (λ (x : Start). x.words) (sym i.object) ∙ ap words_of (sym i.reached.has))
 
 -- ---- whether something starts at an address
 pub other_thread : (thread : ℕ) (pool : PoolView) (targets : Targets) (now : TerritoryView) (a : ℕ) → IsSettled pool → territory_view thread pool targets ≡ now → thread_of a ≢ thread → IsSome (get now.starts a) → ⊥

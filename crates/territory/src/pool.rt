@@ -87,6 +87,7 @@ impl Pool {
     }
 
     /// The segment of a number.
+    #[inline(always)]
     pub fn segment(&self, n: usize) -> &Segment
         requires { n < length self.now.segments }
         ensures { result.now ≡ numbered self.now.segments n }

@@ -58,6 +58,7 @@ impl Model for Territory {
 }
 
 /// The number of the segment of an address, and the number of its start there: one for each two words.
+#[inline(always)]
 fn place(at: Address) -> (usize, usize)
     ensures segment { result.0 ≡ segment_of at }
     ensures start { result.1 ≡ offset_of at / 2 }
@@ -96,6 +97,7 @@ impl Territory {
     }
 
     /// The kind of a start.
+    #[inline(always)]
     pub fn kind(&self, at: Address) -> Kind
         requires { IsSome (map.get self.now.starts at) }
         ensures value { IfSome (map.get self.now.starts at) (λ x. result ≡ x.kind) }
@@ -107,6 +109,7 @@ impl Territory {
     }
 
     /// Its length: fields, or bytes of a byte object; 0 of a guardian, 2 of a queue cell.
+    #[inline(always)]
     pub fn length(&self, at: Address) -> u32
         requires { IsSome (map.get self.now.starts at) }
         ensures value { IfSome (map.get self.now.starts at) (λ x. result ≡ x.length) }
@@ -137,6 +140,7 @@ impl Territory {
     }
 
     /// A word of it, counted after the header.
+    #[inline(always)]
     pub fn word(&self, at: Address, index: u32) -> u64
         requires { index < length (words_of (map.get self.now.starts at)) }
         ensures { result ≡ slice_index (words_of (map.get self.now.starts at)) index }
@@ -145,10 +149,21 @@ impl Territory {
         self.pool.segment(segment).word(start, index as usize)
     }
 
+    /// All its words, after the header; for byte objects the bytes, eight a word.
+    #[inline(always)]
+    pub fn fields(&self, at: Address) -> &[u64]
+        requires { IsSome (map.get self.now.starts at) }
+        ensures { result.now ≡ words_of (map.get self.now.starts at) }
+    {
+        let (segment, start) = place(at);
+        self.pool.segment(segment).fields(start)
+    }
+
     /// Puts a word into a start, at an index that is counted after its header. `refers` is the generation of
     /// what the word refers to, or 255 where it refers to nothing or needs no mark. The card of the word is
     /// marked where `refers` is below the start's generation, and in a from-segment wherever it is not 255:
     /// the write barrier of a generational collector, with one byte for each 64 words.
+    #[inline(always)]
     pub fn put(&mut self, at: Address, index: u32, word: u64, refers: u8)
         requires { index < length (words_of (map.get self.old.starts at)) }
         ensures after { self.new ≡ with_word self.old at index word refers }

@@ -12,6 +12,7 @@ use segment::Segment;
 impl Pool {
     /// Copies start `k` of segment `from`, of so many words, to the top of segment `n`, which is of the same
     /// space, and gives the copy's offset.
+    #[inline(always)]
     pub fn copy(&mut self, from: usize, k: usize, n: usize, size: usize) -> usize
         requires settled { IsSettled self.old }
         requires start { IsStart (numbered self.old.segments from) k }
@@ -35,6 +36,7 @@ impl Pool {
 }
 
 /// Copies a start of one segment to the top of a segment of the same space, and gives the copy's offset.
+#[inline(always)]
 fn copy_start(segments: &mut Vec<Segment>, from: usize, k: usize, n: usize, size: usize) -> usize
     requires sound { (m : ℕ) → IsSound (numbered segments.old.items m) }
     requires start { IsStart (numbered segments.old.items from) k }
@@ -55,6 +57,7 @@ fn copy_start(segments: &mut Vec<Segment>, from: usize, k: usize, n: usize, size
 }
 
 /// The same for a start of two words, as pairs are: no call and no loop for its words.
+#[inline(always)]
 fn copy_two(segments: &mut [Segment], from: usize, k: usize, n: usize) -> usize
     requires sound { (m : ℕ) → IsSound (numbered segments.old m) }
     requires start { IsStart (numbered segments.old from) k }

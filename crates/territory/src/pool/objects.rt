@@ -12,6 +12,7 @@ use cards::CLEAN;
 use segment::{Role, Space};
 
 /// How many cells an object of a space is: a queue cell is one.
+#[inline(always)]
 pub(super) fn cells_of(space: Space) -> u64
     ensures { result ≡ cond (is_cell_space space) 1 0 }
 {
@@ -24,6 +25,7 @@ pub(super) fn cells_of(space: Space) -> u64
 /// Whether a word of a start of this generation that refers to another needs a mark on its card: where the
 /// other is younger, so that it could be collected before; and in a from-segment always, since the start
 /// may get an older generation. 255 stands for no reference.
+#[inline(always)]
 fn needs_mark(role: Role, generation: u8, refers: u8) -> bool
     ensures { result ≡ needs_mark (is_from_role role) generation refers }
 {
@@ -61,6 +63,7 @@ impl Pool {
 
     /// Puts a word into start `k` of segment `n` that refers to a generation; 255 stands for no reference. Where
     /// a mark is needed the card of the word gets it, and the segment is dirty from then on.
+    #[inline(always)]
     pub fn put(&mut self, n: usize, k: usize, index: usize, word: u64, refers: u8)
         requires settled { IsSettled self.old }
         requires start { IsStart (numbered self.old.segments n) k }

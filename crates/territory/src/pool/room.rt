@@ -60,6 +60,7 @@ impl Pool {
     }
 
     /// The open segment of an area, where it has one with room for so many words.
+    #[inline(always)]
     fn open_room(&self, area: usize, size: usize) -> Option<usize>
         requires settled { IsSettled self.now }
         requires area_in { area < 72 }
@@ -76,6 +77,7 @@ impl Pool {
     /// A segment with room for an object of so many words: the open one of the space and generation, or one
     /// that is opened for it. An object of more than 128 words gets a segment of its own. Takes memory where
     /// it opens a segment; refused, no segment in use has changed.
+    #[inline(always)]
     pub fn room_for(
         &mut self,
         space: Space,

@@ -15,6 +15,7 @@ impl Territory {
     /// gives its address. It goes where `allocate` would put a new one of its kind and length. No card is
     /// marked: where a word refers to something younger than the copy, it has to be put again. Takes memory
     /// where it opens a segment; refused, the starts and segments are as before.
+    #[inline(always)]
     pub fn copy(&mut self, at: Address, generation: u8) -> Result<Address, AllocError>
         requires start { IsSome (map.get self.old.starts at) }
         requires generation_in { generation ≤ 8 }
