@@ -1,5 +1,6 @@
 pub mod Words
 pub mod Telling
+pub mod Finding
 pub mod Walk
 pub mod Joining
 pub mod Owners

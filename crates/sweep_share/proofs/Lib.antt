@@ -4,4 +4,3 @@ pub mod Copying
 pub mod Numbers
 pub mod Raising
 pub mod EachOfThem
-pub mod Threads

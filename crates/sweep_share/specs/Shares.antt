@@ -1,5 +1,5 @@
 -- What contracts see of a share: its territories, in order of their threads.
-use Rattle.std.specs.Prelude.{◌≡◌, ◌≢◌, ℕ, ◌+◌, ◌*◌, ◌/◌, ◌%◌, ◌<◌, ◌≤◌, ◌==◌, Bool, false, List, [], length, slice_index_or, slice_set, option_map, Option, None, Some, if◌then◌else◌, refl}
+use Rattle.std.specs.Prelude.{◌≡◌, ◌≢◌, ℕ, ◌+◌, ◌*◌, ◌/◌, ◌%◌, ◌<◌, ◌≤◌, ◌==◌, Bool, false, List, [], length, slice_index, slice_index_or, slice_set, option_map, Option, None, Some, if◌then◌else◌, refl}
 use Rattle.std.specs.Coded.{Coded, code_by, coded×, coded_ℕ, coded_list}
 use Rattle.std.specs.FinMap.{get}
 use Rattle.gc_words.specs.declared.address.TheConstants.{THREADS}
@@ -29,6 +29,14 @@ pub record AreShareOf (number sweepers : ℕ) (territories : List TerritoryView)
   pub threads : (i : ℕ) → i < length territories
       → (slice_index_or territories i (no_territory 0)).thread ≡ number + i * sweepers
   pub covers : (t : ℕ) → t < 64 → t % sweepers ≡ number → t / sweepers < length territories
+
+-- the index of the territory of a thread, or 255 where the thread is another sweeper's
+abbrev pub index_of : ℕ → ℕ → ℕ → ℕ
+index_of number sweepers t = if t % sweepers == number then t / sweepers else 255
+
+-- the table of the indices of all threads
+abbrev pub AreIndicesOf : ℕ → ℕ → List ℕ → Type 0
+AreIndicesOf number sweepers indices = (t : ℕ) → t < 64 → slice_index indices t ≡ index_of number sweepers t
 
 abbrev pub IsShare : ShareView → Type 0
 IsShare s = AreShareOf s.number s.sweepers s.territories

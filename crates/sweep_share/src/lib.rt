@@ -1,14 +1,15 @@
 //! The territories and the registers that one sweeper serves, by address and by number.
 //!
 //! Sweeper k of n serves the threads k, k + n, k + 2 n and so on below 64, and nobody else touches their segments. A
-//! `Share` holds these territories by value and finds the one of an address by a table of threads, so that a sweeper
-//! reads, copies and writes objects by address alone. For contracts it is the territories in order with k and n; `start_in`
-//! is what starts at an address of its own.
+//! `Share` holds these territories by value and finds the one of an address in a table of the threads, so that a
+//! sweeper reads, copies and writes objects by address alone, and divides nothing at an access. For contracts it is the
+//! territories in order with k and n; `start_in` is what starts at an address of its own.
 //!
 //! `len` and `territory` show the territories in order, and `raise_cards` raises the marks on all their cards.
 //!
-//! Invariant: the territory at index i is that of thread k + i n, and there is one for each such thread. `copy` alone
-//! takes memory. That a collection divides the threads by remainder is this project's own.
+//! Invariant: the territory at index i is that of thread k + i n, and there is one for each such thread; the table has
+//! this index for each of them, and 255 for the threads of other sweepers. `copy` alone takes memory. That a collection
+//! divides the threads by remainder is this project's own.
 //!
 //! `Registers` are the sweeper's registers, with what they hold: those whose numbers leave k when divided by n, so that
 //! register k + i n stands at index i. `register_in` is what a register of its own holds. No call takes memory.

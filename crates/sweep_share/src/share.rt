@@ -4,8 +4,7 @@ ghost use Rattle.std.specs.Prelude.{◌≡◌, ◌/◌, ◌%◌, ◌<◌, ◌≤
 ghost use Rattle.gc_mail.specs.Recipients.{owner};
 ghost use Rattle.gc_words.specs.Layout.{thread_of};
 ghost use Rattle.territory.specs.Territories.{words_of};
-ghost use Rattle.sweep_share.specs.Indices.{AreIndices};
-ghost use Rattle.sweep_share.specs.Shares.{AreFinished, AreRaised, AreShareOf, IsCopied, IsPut, IsRaised, IsShare, start_in, territory_at, territory_of};
+ghost use Rattle.sweep_share.specs.Shares.{AreFinished, AreIndicesOf, AreRaised, AreShareOf, IsCopied, IsPut, IsRaised, IsShare, start_in, territory_at, territory_of};
 
 use gc_words::Address;
 use std::alloc::AllocError;
@@ -13,7 +12,7 @@ use std::marker::Model;
 use territory::Territory;
 use trace_types::Kind;
 
-/// What stands in the place of an index for a thread of another sweeper: no territory has it.
+/// What stands in place of an index where a thread is another sweeper's. An index is below 64.
 const NOT_OWN: u8 = 255;
 
 /// The territories of the threads that leave `number` when divided by `sweepers`.
@@ -21,14 +20,13 @@ const NOT_OWN: u8 = 255;
 pub struct Share {
     number: u32,
     sweepers: u32,
-    /// For each thread the index of its territory, so that no access to a word divides.
+    /// For each thread the index of its territory, or `NOT_OWN`: an access by address divides nothing.
     indices: [u8; 64],
     territories: Vec<Territory>,
 }
 
 impl Model for Share {
-    ghost use Rattle.sweep_share.specs.Indices.{AreIndices};
-    ghost use Rattle.sweep_share.specs.Shares.{AreShareOf, ShareView, coded_share};
+    ghost use Rattle.sweep_share.specs.Shares.{AreIndicesOf, AreShareOf, ShareView, coded_share};
 
     ghost Value = { ShareView };
 
@@ -37,17 +35,16 @@ impl Model for Share {
     ghost view = { λ s. record { number = s.number; sweepers = s.sweepers; territories = s.territories.items } };
 
     ghost invariant = { λ s. AreShareOf s.number s.sweepers s.territories.items
-        × AreIndices s.number s.sweepers s.indices };
+        × AreIndicesOf s.number s.sweepers s.indices };
 }
 
-/// For each thread the index of its territory, where it is one of sweeper `number`, and else `NOT_OWN`.
+/// For each thread the index of its territory in the share of this sweeper, or `NOT_OWN`.
 fn indices_of(number: u32, sweepers: u32) -> [u8; 64]
-    requires number_in { number < sweepers }
-    requires most { sweepers ≤ 64 }
-    ensures { AreIndices number sweepers result }
+    requires { 0 < sweepers }
+    ensures { AreIndicesOf number sweepers result }
 {
     let mut indices = [NOT_OWN; 64];
-    for thread in 0..64u32 {
+    for thread in 0..64 {
         if thread % sweepers == number {
             indices[thread as usize] = (thread / sweepers) as u8;
         }
@@ -80,10 +77,11 @@ impl Share {
         requires { AreShareOf number sweepers territories.items }
         ensures { result ≡ record { number = number; sweepers = sweepers; territories = territories.items } }
     {
+        let indices = indices_of(number, sweepers);
         Share {
             number,
             sweepers,
-            indices: indices_of(number, sweepers),
+            indices,
             territories,
         }
     }
@@ -110,7 +108,7 @@ impl Share {
         ensures value { result.now ≡ territory_at self.now (thread / self.now.sweepers) }
         ensures thread { result.now.thread ≡ thread }
     {
-        &self.territories[usize::from(self.indices[thread as usize])]
+        &self.territories[usize::from(self.indices[usize::from(thread)])]
     }
 
     /// Raises the marks of at most `cg` on the cards of generations above `cg`, as each territory does.
@@ -133,7 +131,7 @@ impl Share {
     pub fn is_own(&self, at: Address) -> bool
         ensures { IsTrue result ↔ (owner self.now.sweepers at ≡ self.now.number) }
     {
-        self.indices[at.thread() as usize] != NOT_OWN
+        self.indices[usize::from(at.thread())] != NOT_OWN
     }
 
     /// The index of the territory of an address of its own.
@@ -144,7 +142,7 @@ impl Share {
         ensures within { result < length self.now.territories }
         ensures thread { thread_of at < 64 }
     {
-        usize::from(self.indices[at.thread() as usize])
+        usize::from(self.indices[usize::from(at.thread())])
     }
 
     /// The territory of an address of its own.
@@ -175,15 +173,6 @@ impl Share {
         self.territory_of(at).length(at)
     }
 
-    /// All its words after the header: of a byte object eight bytes each.
-    #[inline(always)]
-    pub fn fields(&self, at: Address) -> &[u64]
-        requires { IsSome (start_in self.now at) }
-        ensures { result.now ≡ words_of (start_in self.now at) }
-    {
-        self.territory_of(at).fields(at)
-    }
-
     /// A word of it, counted after the header.
     #[inline(always)]
     pub fn word(&self, at: Address, index: u32) -> u64
@@ -191,6 +180,15 @@ impl Share {
         ensures { result ≡ slice_index (words_of (start_in self.now at)) index }
     {
         self.territory_of(at).word(at, index)
+    }
+
+    /// All its words, after the header; for byte objects the bytes, eight a word.
+    #[inline(always)]
+    pub fn fields(&self, at: Address) -> &[u64]
+        requires { IsSome (start_in self.now at) }
+        ensures { result.now ≡ words_of (start_in self.now at) }
+    {
+        self.territory_of(at).fields(at)
     }
 
     /// Puts a word into a start, at an index that is counted after its header, and marks its card where `refers`, the
