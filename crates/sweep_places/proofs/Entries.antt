@@ -5,13 +5,12 @@ use Rattle.std.proofs.lemmas.Grind.{common_steps}
 use Rattle.std.proofs.lemmas.List.{get_or_append_left, get_or_past, get_or_read, get_or-replicate, get_or-set_same, get_or-set_other, length-replicate, length-set}
 use Rattle.std.proofs.lemmas.List.Elements.{Contains-get_or}
 use Rattle.std.proofs.Math.Seq.{get_or-append_seam}
-use Rattle.gc_words.specs.declared.value.Value.{Value}
-use Rattle.gc_words.specs.declared.value.Value.TheVariants.{Fixnum, Object}
+use Rattle.gc_words.specs.declared.value.Value.TheVariants.{Object}
 use Rattle.gc_words.specs.Word.{value_of}
 use Rattle.directory.specs.Directories.{DirectoryView, HasOwnWords, IsWithin, TellsApart, start_of, word_in}
 use Rattle.directory.specs.declared.table.FromSegment.{FromSegment}
 use Rattle.sweep_model.specs.Hands.{IsAbsent, forwarded_at}
-use Rattle.sweep_places.specs.Places.{ArePlaces, HasPlace, IsOwnStart, PlacesView}
+use Rattle.sweep_places.specs.Places.{ArePlaces, IsOwnStart, PlacesView}
 
 -- what is known is there
 is_some : (o : Option FromSegment) (x : FromSegment) → o ≡ Some x → IsSome o

@@ -133,6 +133,7 @@ impl Places {
     pub fn take_unswept(&mut self) -> Option<(Address, Address)>
         ensures some { IfSome result (λ f. self.old.unswept ≡ self.new.unswept ++ f ∷ []) }
         ensures none { IfNone result (self.old.unswept ≡ []) }
+        ensures same { IfNone result (self.new ≡ self.old) }
         ensures rest { self.new ≡ record self.old { unswept = self.new.unswept } }
     {
         self.unswept.pop()

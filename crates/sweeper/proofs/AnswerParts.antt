@@ -1,12 +1,10 @@
 -- What the code of answering reads, as clauses say it.
-use Rattle.std.proofs.Common.{◌≡◌, ◌≢◌, ℕ, List, [], ◌∷◌, ◌++◌, IfSome, Some, sym, ap, subst, ◌∙◌}
+use Rattle.std.proofs.Common.{◌≡◌, ◌≢◌, ℕ, List, [], ◌∷◌, ◌++◌, sym, ap, subst, ◌∙◌}
 use Rattle.gc_mail.specs.declared.message.Message.{Message}
 use Rattle.gc_mail.specs.declared.message.Slot.{Slot}
 use Rattle.gc_mail.specs.Recipients.{holder_of}
-use Rattle.territory.specs.Finishing.{target_of}
-use Rattle.directory.specs.Directories.{DirectoryView, from_at, sweeper_count}
-use Rattle.sweeper.specs.Sweepers.{CanKeep, IsJoined, IsKept, IsKeptNow, IsSteady, SweeperView, WasKept, sends}
-use Rattle.sweeper.proofs.Kept.{if_from}
+use Rattle.directory.specs.Directories.{DirectoryView, sweeper_count}
+use Rattle.sweeper.specs.Sweepers.{IsJoined, IsKept, IsKeptNow, IsSteady, SweeperView, WasKept, sends}
 use Rattle.sweeper.proofs.WorldSteady.{steady_itself}
 
 kept_steady : (old mid : SweeperView) (t q : ℕ) → IsKept old mid t q → IsSteady old mid

@@ -1,6 +1,7 @@
 -- The first message of a sweeper whose fields show the value.
 use Rattle.std.proofs.Common.{◌≡◌, List, [], ◌∷◌, sym, ap, subst, ◌∙◌}
 use Rattle.gc_mail.specs.declared.message.Message.{Message}
+use Rattle.sweep_places.specs.Places.{PlacesView}
 use Rattle.sweeper.specs.Sweepers.{SweeperView}
 use Rattle.sweeper.specs.Ready.{Handles, MayHandle, Ready, Runs}
 use Rattle.sweeper.proofs.WorldMail.{popped_may, popped_runs, runs_none}
@@ -10,6 +11,12 @@ pub runs_idle : (s v : SweeperView) (ms : List Message) → s ≡ v → (s.inbox
     → Runs v (record s { inbox = ms })
 runs_idle s v ms same none =
     subst (Runs v) (sym same ∙ ap (λ l. record s { inbox = l }) (none.0 ∙ sym none.1)) (runs_none v)
+
+-- no object was taken
+pub runs_nowhere : (s v : SweeperView) (places : PlacesView) → s ≡ v → places ≡ s.places
+    → Runs v (record s { places = places })
+runs_nowhere s v places is same =
+    subst (Runs v) (sym is ∙ ap (λ (p : PlacesView). record s { places = p }) (sym same)) (runs_none v)
 
 -- it may be handled
 pub may_handle : (s v : SweeperView) (m : Message) (ms : List Message) → s ≡ v → s.inbox ≡ m ∷ ms

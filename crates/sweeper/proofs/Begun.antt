@@ -1,6 +1,6 @@
 -- The sweeper that was made is ready, and begins.
-use Rattle.std.proofs.Common.{◌≡◌, ◌≢◌, ℕ, ◌%◌, ◌/◌, ◌<◌, ◌≤◌, ◌==◌, Bool, true, false, cond, List, [], ◌++◌, length, map, nat_le, slice_get, Option, None, Some, IsSome, Contains, refl, sym, ap, subst, ◌∙◌, inl, inr, ◌⊎◌, arith}
-use Rattle.std.proofs.lemmas.Bool.{eqb-true, false≢true}
+use Rattle.std.proofs.Common.{◌≡◌, ◌≢◌, ℕ, ◌<◌, ◌≤◌, Bool, true, false, cond, List, [], ◌++◌, length, map, nat_le, Option, None, Some, IsSome, Contains, refl, sym, ap, subst, ◌∙◌, inl, inr, ◌⊎◌, arith}
+use Rattle.std.proofs.lemmas.Bool.{false≢true}
 use Rattle.std.proofs.lemmas.List.Elements.{Contains-append_left, Contains-append_right}
 use Rattle.std.proofs.lemmas.Option.{none-some, same_Some}
 use Rattle.std.specs.FinMap.{get}
@@ -21,7 +21,7 @@ use Rattle.sweep_model.specs.Holding.{in_standing, out_standing}
 use Rattle.sweep_model.specs.Wholes.{AsksForRoot, Begins, IsPlaced, IsRoot, MayCome, MayGo}
 use Rattle.sweep_model.proofs.Counting.{count_append}
 use Rattle.sweep_model.proofs.Names.{collected_some}
-use Rattle.sweep_share.specs.Registers.{AreRegistersOf, RegistersView, held_in, register_in}
+use Rattle.sweep_share.specs.Registers.{AreRegistersOf, RegistersView, register_in}
 use Rattle.sweep_share.specs.Shares.{AreShareOf, AreSound, IsRaised, ShareView, start_in, territory_at}
 use Rattle.sweep_share.proofs.Places.{own_of}
 use Rattle.sweep_places.specs.Places.{PlacesView}
@@ -178,7 +178,7 @@ module _ (world : World) (number : ℕ) (d : DirectoryView) (territories : List 
     number_in = number_in;
     tied = tied;
     own = refl;
-    swept = refl;
+    unswept = refl;
     comes = λ m c. let r = comes m c in (r.root, r.to);
     goes = λ m c. let r = goes m c in (r.root, r.to);
     all = λ b t wants root holder. elim (sent s asked b t

@@ -8,7 +8,7 @@ use Rattle.gc_words.specs.Word.{value_of}
 use Rattle.segment.specs.Segments.{Start}
 use Rattle.territory.specs.Territories.{words_of}
 use Rattle.directory.specs.declared.table.FromSegment.{FromSegment}
-use Rattle.directory.specs.declared.table.Found.{Found}
+use Rattle.directory.specs.declared.directory.Found.{Found}
 use Rattle.directory.specs.Directories.{DirectoryView, found_at, found_in, from_at}
 use Rattle.sweep_model.specs.World.{is_strong, object_in}
 use Rattle.sweeper.specs.declared.fields.Asked.{Asked}

@@ -1,21 +1,18 @@
 -- What a field asks for, as the code finds it.
-use Rattle.std.proofs.Common.{◌≡◌, ℕ, ◌<◌, ◌≤◌, Bool, true, false, cond, List, [], ◌∷◌, ◌++◌, length, slice_index, Option, None, Some, IfNone, IfSome, IsTrue, refl, sym, ap, subst, ◌∙◌, arith}
+use Rattle.std.proofs.Common.{◌≡◌, ℕ, ◌≤◌, Bool, true, false, List, [], ◌∷◌, ◌++◌, None, Some, IsTrue, sym, ap, subst, ◌∙◌, arith}
 use Rattle.std.proofs.lemmas.Bool.{false≢true}
 use Rattle.std.proofs.lemmas.Option.{none-some, same_Some}
 use Rattle.gc_words.specs.Layout.{offset_of}
-use Rattle.gc_words.specs.Word.{value_of}
 use Rattle.segment.specs.Segments.{Start}
-use Rattle.territory.specs.Territories.{words_of}
 use Rattle.gc_mail.specs.declared.message.Message.{Message}
 use Rattle.gc_mail.specs.declared.message.Message.TheVariants as message
 use Rattle.gc_mail.specs.declared.message.Slot.TheVariants as back
 use Rattle.gc_mail.specs.Recipients.{owner}
 use Rattle.territory.specs.Finishing.{target_of}
 use Rattle.directory.specs.declared.table.FromSegment.{FromSegment}
-use Rattle.directory.specs.declared.table.Found.{Found}
+use Rattle.directory.specs.declared.directory.Found.{Found}
 use Rattle.directory.specs.Tables.{word_at}
 use Rattle.directory.specs.Directories.{DirectoryView, found_at, found_in, from_at, word_in, word_or_0}
-use Rattle.sweep_model.specs.World.{is_strong, object_in}
 use Rattle.sweep_share.specs.Shares.{start_in}
 use Rattle.sweeper.specs.Sweepers.{CanKeep, FieldDone, GoesTo, IsForeign, IsKept, IsOwn, Puts, SweeperView, asked_in, sends}
 

@@ -13,7 +13,7 @@ use Rattle.sweep_places.specs.Places.{PlacesView}
 use Rattle.sweeper.specs.Sweepers.{AreStrong, AskNothing, FieldDone, IsForeign, IsKept, IsKeptNow, IsOwn, IsPlain, SweeperView, WasKept, asked_in, if_aside, left_of}
 use Rattle.sweeper.specs.Ready.{Ready}
 use Rattle.sweeper.proofs.WorldReady.{with_rest}
-use Rattle.sweeper.proofs.WorldSwept.{IsNext, IsSweptTo, next_is, one_swept, rest_of, swept_there, there_words}
+use Rattle.sweeper.proofs.WorldSwept.{IsNext, IsSweptTo, next_is, one_swept, rest_of, swept_there, swept_to_none, swept_up_to, there_words}
 
 -- ---- the object
 
@@ -58,10 +58,11 @@ next_start v x p r next =
 is_some_at : (o : Option Start) (s : Start) → o ≡ Some s → IsSome o
 is_some_at o s e = subst IsSome (sym e) refl
 
-pub next_there : (s v : SweeperView) (x p : ℕ) → s.share ≡ v.share → Ready v → IsNext v x p → IsSome (start_in s.share x)
-next_there s v x p e r next =
+pub next_there : (share : ShareView) (v : SweeperView) (x p : ℕ) → share ≡ v.share → Ready v → IsNext v x p
+    → IsSome (start_in share x)
+next_there share v x p e r next =
     let n = next_start v x p r next in
-    is_some_at (start_in s.share x) n.0 (ap (λ (z : ShareView). start_in z x) e ∙ n.1)
+    is_some_at (start_in share x) n.0 (ap (λ (z : ShareView). start_in z x) e ∙ n.1)
 
 -- and stays as it is while its fields are handled
 pub there_same : (v u : SweeperView) (x p i : ℕ) → Ready v → IsNext v x p → IsSweptTo v u x i
@@ -89,11 +90,11 @@ length_most kind.Cell n h = omega (arith, h)
 if_there : (o : Option Start) (P : Start → Type 0) (s : Start) → o ≡ Some s → IfSome o P → P s
 if_there o P s e h = subst (λ z. IfSome z P) e h
 
-pub length_fits : (s v : SweeperView) (x p len : ℕ) → s.share ≡ v.share → Ready v → IsNext v x p
-    → IfSome (start_in s.share x) (λ y. len ≡ y.length) → len ≤ 4000000
-length_fits s v x p len e r next is =
+pub length_fits : (share : ShareView) (v : SweeperView) (x p len : ℕ) → share ≡ v.share → Ready v → IsNext v x p
+    → IfSome (start_in share x) (λ y. len ≡ y.length) → len ≤ 4000000
+length_fits share v x p len e r next is =
     let n = next_start v x p r next in
-    let same : len ≡ n.0.length = if_there (start_in s.share x) (λ y. len ≡ y.length) n.0 (ap (λ (z : ShareView). start_in z x) e ∙ n.1) is in
+    let same : len ≡ n.0.length = if_there (start_in share x) (λ y. len ≡ y.length) n.0 (ap (λ (z : ShareView). start_in z x) e ∙ n.1) is in
     let most : n.0.length ≤ 4000000 = length_most n.0.kind n.0.length n.2.has_length in
     omega (arith, same, most)
 
@@ -107,16 +108,16 @@ pub record IsCounted (v : SweeperView) (x first end : ℕ) : Type 0 where
   pub before : (j : ℕ) → j < first → is_strong start.kind j ≡ false
   pub after : (j : ℕ) → end ≤ j → j < length start.words → is_strong start.kind j ≡ false
 
-pub counted : (s v : SweeperView) (x p len first end : ℕ) (k : Kind) → s.share ≡ v.share → Ready v → IsNext v x p
-    → IfSome (start_in s.share x) (λ y. k ≡ y.kind) → IfSome (start_in s.share x) (λ y. len ≡ y.length)
+pub counted : (share : ShareView) (v : SweeperView) (x p len first end : ℕ) (k : Kind) → share ≡ v.share → Ready v → IsNext v x p
+    → IfSome (start_in share x) (λ y. k ≡ y.kind) → IfSome (start_in share x) (λ y. len ≡ y.length)
     → first ≤ end → end ≤ words_after k len
     → ((i : ℕ) → first ≤ i → i < end → is_strong k i ≡ true) → ((i : ℕ) → i < first → is_strong k i ≡ false)
     → ((i : ℕ) → end ≤ i → i < words_after k len → is_strong k i ≡ false) → IsCounted v x first end
-counted s v x p len first end k e r next kind_is length_is order within strong before after =
+counted share v x p len first end k e r next kind_is length_is order within strong before after =
     let n = next_start v x p r next in
-    let here : start_in s.share x ≡ Some n.0 = ap (λ (z : ShareView). start_in z x) e ∙ n.1 in
-    let k_is : k ≡ n.0.kind = if_there (start_in s.share x) (λ y. k ≡ y.kind) n.0 here kind_is in
-    let l_is : len ≡ n.0.length = if_there (start_in s.share x) (λ y. len ≡ y.length) n.0 here length_is in
+    let here : start_in share x ≡ Some n.0 = ap (λ (z : ShareView). start_in z x) e ∙ n.1 in
+    let k_is : k ≡ n.0.kind = if_there (start_in share x) (λ y. k ≡ y.kind) n.0 here kind_is in
+    let l_is : len ≡ n.0.length = if_there (start_in share x) (λ y. len ≡ y.length) n.0 here length_is in
     let words : words_after k len ≡ length n.0.words =
     ap (λ z. words_after z len) k_is ∙ (ap (words_after n.0.kind) l_is ∙ sym n.2.its_words) in
     record {
@@ -159,6 +160,33 @@ module _ (v : SweeperView) (x first end : ℕ) (c : IsCounted v x first end) whe
 
   pub counted_end : (u : SweeperView) → start_in u.share x ≡ start_in v.share x → end ≤ length (words_of (start_in u.share x))
   counted_end u same = subst (λ o. end ≤ length (words_of o)) (sym (same ∙ c.here)) c.within
+
+-- the object that was taken, and its strong fields
+pub record IsTaken (v : SweeperView) (x p first end : ℕ) : Type 0 where
+  pub ready : Ready v
+  pub next : IsNext v x p
+  pub all : IsCounted v x first end
+
+pub taken : (s v : SweeperView) (places : PlacesView) (f : ℕ × ℕ) (len first end : ℕ) (k : Kind) → s ≡ v
+    → s.places.unswept ≡ places.unswept ++ f ∷ [] → Ready v
+    → IfSome (start_in s.share f.0) (λ y. k ≡ y.kind) → IfSome (start_in s.share f.0) (λ y. len ≡ y.length)
+    → first ≤ end → end ≤ words_after k len
+    → ((i : ℕ) → first ≤ i → i < end → is_strong k i ≡ true) → ((i : ℕ) → i < first → is_strong k i ≡ false)
+    → ((i : ℕ) → end ≤ i → i < words_after k len → is_strong k i ≡ false) → IsTaken v f.0 f.1 first end
+taken s v places f len first end k e is ready kind_is length_is order within strong before after =
+    let next = is_next s v places f e is in
+    record {
+      ready = ready;
+      next = next;
+      all = counted s.share v f.0 f.1 len first end k (ap (λ (z : SweeperView). z.share) e) ready next kind_is length_is order within
+          strong before after;
+    }
+
+-- before its first strong field nothing is to be done
+pub taken_first : (v : SweeperView) (x p first end : ℕ) → IsTaken v x p first end → IsSweptTo v (one_swept v) x first
+taken_first v x p first end t =
+    swept_up_to v (one_swept v) x p 0 first t.next (swept_to_none v x p t.next) (omega arith)
+    (counted_within v x first end t.all first t.all.order) (before_asks v x first end t.all (one_swept v) refl)
 
 pub copy_word : (v u : SweeperView) (x p i j first end : ℕ) → Ready v → IsNext v x p → IsSweptTo v u x i
     → IsCounted v x first end → j < end → j < length (words_of (start_in u.share p))

@@ -7,7 +7,6 @@ use Rattle.directory.specs.Directories.{sweeper_count}
 use Rattle.sweep_model.specs.World.{goes_to}
 use Rattle.sweep_share.specs.Shares.{IsAlike, ShareView}
 use Rattle.sweep_share.specs.Registers.{RegistersView}
-use Rattle.sweep_places.specs.Places.{PlacesView}
 use Rattle.sweeper.specs.Sweepers.{IsJoined, IsSteady, SweeperView}
 
 -- ---- steady steps

@@ -1,5 +1,5 @@
 -- What contracts see of a sweeper, and what its steps change.
-use Rattle.std.specs.Prelude.{◌≡◌, ◌≢◌, ℕ, ◌+◌, ◌-◌, ◌^◌, ◌<◌, ◌≤◌, Bool, false, List, [], ◌∷◌, ◌++◌, length, is_some, if◌then◌else◌, Option, None, Some, IsSome, Contains, ◌⊎◌}
+use Rattle.std.specs.Prelude.{◌≡◌, ◌≢◌, ℕ, ◌+◌, ◌-◌, ◌^◌, ◌<◌, ◌≤◌, Bool, true, false, List, [], ◌∷◌, ◌++◌, length, is_some, if◌then◌else◌, Option, None, Some, IsSome, Contains, ◌⊎◌}
 use Rattle.gc_words.specs.declared.value.Value.TheVariants as value
 use Rattle.gc_words.specs.Word.{value_of}
 use Rattle.segment.specs.Segments.{Start}

@@ -51,14 +51,17 @@ impl Sweeper {
         ensures more { IfOk result (λ b. b ≡ true → left_of self.new < left_of self.old) }
         ensures done { IfOk result (λ b. b ≡ false → self.new.places.unswept ≡ []) }
     {
-        let Some((object, copy)) = self.places.take_unswept() else {
+        let Some(unswept) = self.places.take_unswept() else {
             return Ok(false);
         };
-        let (first, end) = strong_fields(self.share.kind(object), self.share.length(object));
+        let (object, copy) = unswept;
+        let kind = self.share.kind(object);
+        let (first, end) = strong_fields(kind, self.share.length(object));
         let mut from = first;
         while let Some(asked) = self.next_asked(object, from, end, directory) {
+            let index = asked.index;
             self.sweep_field(object, copy, asked, directory)?;
-            from = asked.index + 1;
+            from = index + 1;
         }
         Ok(true)
     }

@@ -4,4 +4,4 @@ use Rattle.sweeper.proofs.fields.first_asked.Given as goal
 
 abbrev pub invariant-loop-index : goal.invariant-loop-index
 invariant-loop-index l =
-    (i : ℕ) → l.from ≤ i → i < l.index → asked_by l.directory.now (slice_index l.words.now i) ≡ None
+    (i : ℕ) → l.from ≤ i → i < l.index → asked_by l.directory (slice_index l.words i) ≡ None

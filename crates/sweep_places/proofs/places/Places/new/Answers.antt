@@ -1,5 +1,4 @@
-use Rattle.std.proofs.Common.{◌≡◌, [], refl, sym, ap, subst, arith, length}
-use Rattle.directory.specs.Directories.{DirectoryView, HasOwnWords, TellsApart}
+use Rattle.std.proofs.Common.{sym, ap, subst, length}
 use Rattle.sweep_places.specs.Places.{ArePlaces}
 use Rattle.sweep_places.proofs.Entries.{none_noted}
 use Rattle.sweep_places.proofs.places.Places.new.Goals as goal

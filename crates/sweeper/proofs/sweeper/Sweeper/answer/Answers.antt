@@ -1,9 +1,9 @@
-use Rattle.std.proofs.Common.{◌≡◌, subst}
+use Rattle.std.proofs.Common.{◌≡◌, sym, subst, ◌∙◌}
 use Rattle.gc_mail.specs.Recipients.{holder_of}
 use Rattle.sweeper.specs.Sweepers.{Writes}
 use Rattle.sweeper.specs.Ready.{IsTold, IsWrittenNow}
 use Rattle.sweeper.proofs.AnswerParts.{held, not_held, sent_is}
-use Rattle.sweeper.proofs.Fielding.{goes_there, goes_to_target, told_there, word_there, young_there}
+use Rattle.sweeper.proofs.Fielding.{goes_to_target}
 use Rattle.sweeper.proofs.WordsKept.{word_kept}
 use Rattle.sweeper.proofs.sweeper.Sweeper.answer.Goals as goal
 use Rattle.sweeper.proofs.sweeper.Sweeper.answer.Goals.{Then-holder-number}

@@ -1,101 +1,121 @@
-use Rattle.std.proofs.Common.{◌≡◌, ◌+◌, sym, ap, subst, ◌∙◌, arith}
-use Rattle.sweeper.specs.Sweepers.{SweeperView}
-use Rattle.sweeper.proofs.WorldSwept.{IsSweptTo, one_swept, swept_runs, swept_there, swept_to_more, swept_to_none, there_keeps}
-use Rattle.sweeper.proofs.SweptFields.{copy_word, counted, counted_rest, counted_within, field_kind, field_left, field_word, is_next, length_fits, next_there}
+use Rattle.std.proofs.Common.{◌<◌, sym, ap, subst, ◌∙◌, arith}
+use Rattle.sweep_places.specs.Places.{PlacesView}
+use Rattle.sweeper.specs.Sweepers.{SweeperView, left_of}
+use Rattle.sweeper.proofs.AnswerSteps.{runs_nowhere}
+use Rattle.sweeper.proofs.WorldSwept.{IsSweptTo, swept_runs, swept_there, swept_to_more, swept_up_to, there_keeps}
+use Rattle.sweeper.proofs.SweptFields.{copy_word, counted_end, counted_inside, counted_rest, counted_strong, counted_within, field_left, is_next, length_fits, next_there, popped, popped_left, taken, taken_first, there_same}
 use Rattle.sweeper.proofs.sweeper.Sweeper.sweep_next.Goals as goal
 
-pub overflow_add-self : goal.overflow_add-self
-overflow_add-self c = omega (arith, c.requires.fits, ap (λ (v : SweeperView). v.swept) c.self.view_is)
+pub returns-in_default-clause-runs : goal.returns-in_default-clause-runs
+returns-in_default-clause-runs c =
+    runs_nowhere _ c.args.self.now c.take_unswept.new.self c.self.view_is c.in_default.ensures.same
+
+pub returns-in_default-clause-done : goal.returns-in_default-clause-done
+returns-in_default-clause-done c = λ _. ap (λ (p : PlacesView). p.unswept) c.in_default.ensures.same ∙ c.in_default.ensures.none
 
 pub kind-kind-requires : goal.kind-kind-requires
 kind-kind-requires c =
-    next_there _ c.args.self.now c.forwarded-object.result.0 c.forwarded-object.result.1 c.self.view_is c.requires.ready
-    (is_next _ c.args.self.now c.forwarded-object.result c.self.view_is c.requires.left c.forwarded-object.ensures)
+    next_there c.self.inside.share c.args.self.now c.in-Some.unswept.0 c.in-Some.unswept.1 (ap (λ (v : SweeperView). v.share) c.self.view_is) c.requires.ready
+    (is_next _ c.args.self.now c.take_unswept.new.self c.in-Some.unswept c.self.view_is c.in-Some.ensures.some)
 
 pub length-requires : goal.length-requires
 length-requires c =
-    next_there _ c.args.self.now c.forwarded-object.result.0 c.forwarded-object.result.1 c.self.view_is c.requires.ready
-    (is_next _ c.args.self.now c.forwarded-object.result c.self.view_is c.requires.left c.forwarded-object.ensures)
+    next_there c.self.inside.share c.args.self.now c.in-Some.unswept.0 c.in-Some.unswept.1 (ap (λ (v : SweeperView). v.share) c.self.view_is) c.requires.ready
+    (is_next _ c.args.self.now c.take_unswept.new.self c.in-Some.unswept c.self.view_is c.in-Some.ensures.some)
 
-pub fields_to_sweep-count-requires : goal.fields_to_sweep-count-requires
-fields_to_sweep-count-requires c =
-    length_fits _ c.args.self.now c.forwarded-object.result.0 c.forwarded-object.result.1 c.length.result c.self.view_is c.requires.ready
-    (is_next _ c.args.self.now c.forwarded-object.result c.self.view_is c.requires.left c.forwarded-object.ensures) c.length.ensures
+pub strong_fields-first-requires : goal.strong_fields-first-requires
+strong_fields-first-requires c =
+    length_fits c.self.inside.share c.args.self.now c.in-Some.unswept.0 c.in-Some.unswept.1 c.length.result (ap (λ (v : SweeperView). v.share) c.self.view_is) c.requires.ready
+    (is_next _ c.args.self.now c.take_unswept.new.self c.in-Some.unswept c.self.view_is c.in-Some.ensures.some) c.length.ensures
 
-pub loop-index-init : goal.loop-index-init
-loop-index-init c =
-    let next = is_next _ c.args.self.now c.forwarded-object.result c.self.view_is c.requires.left c.forwarded-object.ensures in
+pub loop-asked-init : goal.loop-asked-init
+loop-asked-init c =
+    let t = taken _ c.args.self.now c.take_unswept.new.self c.in-Some.unswept c.length.result c.strong_fields-first.result.0
+    c.strong_fields-first.result.1 c.kind-kind.result c.self.view_is c.in-Some.ensures.some c.requires.ready c.kind-kind.ensures
+    c.length.ensures c.strong_fields-first.ensures.order c.strong_fields-first.ensures.within c.strong_fields-first.ensures.strong
+    c.strong_fields-first.ensures.before c.strong_fields-first.ensures.after in
+    let e = popped _ c.args.self.now c.take_unswept.new.self c.in-Some.unswept c.self.view_is c.in-Some.ensures.some c.in-Some.ensures.rest in
     record {
-      done = subst (λ (z : SweeperView). IsSweptTo c.args.self.now (one_swept z) c.forwarded-object.result.0 0) (sym c.self.view_is)
-          (swept_to_none c.args.self.now c.forwarded-object.result.0 c.forwarded-object.result.1 next);
-      swept = ap (λ (z : SweeperView). z.swept + 1) c.self.view_is;
+      done = subst (λ (z : SweeperView). IsSweptTo c.args.self.now z c.in-Some.unswept.0 c.strong_fields-first.result.0) (sym e)
+          (taken_first c.args.self.now c.in-Some.unswept.0 c.in-Some.unswept.1 c.strong_fields-first.result.0 c.strong_fields-first.result.1 t);
+      begun = omega arith;
+      order = c.strong_fields-first.ensures.order;
+      left = subst (λ (z : SweeperView). left_of z < left_of c.args.self.now) (sym e)
+          (popped_left _ c.args.self.now c.take_unswept.new.self c.in-Some.unswept c.self.view_is c.in-Some.ensures.some);
       inbox = ap (λ (z : SweeperView). z.inbox) c.self.view_is;
-      directory = ap (λ (z : SweeperView). z.places.directory) c.self.view_is;
+      directory = ap (λ (z : SweeperView). z.places.directory) e;
     }
 
-pub sweep_field-requires-clause-same : goal.sweep_field-requires-clause-same
-sweep_field-requires-clause-same c = c.loop-index.invariant.directory ∙ c.requires.same
+pub next_asked-requires-clause-end : goal.next_asked-requires-clause-end
+next_asked-requires-clause-end c =
+    let t = taken _ c.args.self.now c.take_unswept.new.self c.in-Some.unswept c.length.result c.strong_fields-first.result.0
+    c.strong_fields-first.result.1 c.kind-kind.result c.self.view_is c.in-Some.ensures.some c.requires.ready c.kind-kind.ensures
+    c.length.ensures c.strong_fields-first.ensures.order c.strong_fields-first.ensures.within c.strong_fields-first.ensures.strong
+    c.strong_fields-first.ensures.before c.strong_fields-first.ensures.after in
+    counted_end c.args.self.now c.in-Some.unswept.0 c.strong_fields-first.result.0 c.strong_fields-first.result.1 t.all c.loop-asked.self
+    (there_same c.args.self.now c.loop-asked.self c.in-Some.unswept.0 c.in-Some.unswept.1 c.loop-asked.from t.ready t.next c.loop-asked.invariant.done)
 
-pub sweep_field-requires-clause-kind_is : goal.sweep_field-requires-clause-kind_is
-sweep_field-requires-clause-kind_is c =
-    let next = is_next _ c.args.self.now c.forwarded-object.result c.self.view_is c.requires.left c.forwarded-object.ensures in
-    field_kind c.args.self.now c.loop-index.self c.forwarded-object.result.0 c.forwarded-object.result.1 c.loop-index.index c.fields_to_sweep-count.result c.kind-kind.result
-    c.requires.ready next c.loop-index.invariant.done
-    (counted _ c.args.self.now c.forwarded-object.result.0 c.forwarded-object.result.1 c.length.result c.fields_to_sweep-count.result c.kind-kind.result c.self.view_is
-    c.requires.ready next c.kind-kind.ensures c.length.ensures c.fields_to_sweep-count.ensures.within c.fields_to_sweep-count.ensures.rest)
-
-pub sweep_field-requires-clause-word : goal.sweep_field-requires-clause-word
-sweep_field-requires-clause-word c =
-    let next = is_next _ c.args.self.now c.forwarded-object.result c.self.view_is c.requires.left c.forwarded-object.ensures in
-    field_word c.args.self.now c.loop-index.self c.forwarded-object.result.0 c.forwarded-object.result.1 c.loop-index.index c.fields_to_sweep-count.result c.kind-kind.result
-    c.requires.ready next c.loop-index.invariant.done
-    (counted _ c.args.self.now c.forwarded-object.result.0 c.forwarded-object.result.1 c.length.result c.fields_to_sweep-count.result c.kind-kind.result c.self.view_is
-    c.requires.ready next c.kind-kind.ensures c.length.ensures c.fields_to_sweep-count.ensures.within c.fields_to_sweep-count.ensures.rest)
-    (omega arith)
+pub next_asked-requires-clause-strong : goal.next_asked-requires-clause-strong
+next_asked-requires-clause-strong c =
+    let t = taken _ c.args.self.now c.take_unswept.new.self c.in-Some.unswept c.length.result c.strong_fields-first.result.0
+    c.strong_fields-first.result.1 c.kind-kind.result c.self.view_is c.in-Some.ensures.some c.requires.ready c.kind-kind.ensures
+    c.length.ensures c.strong_fields-first.ensures.order c.strong_fields-first.ensures.within c.strong_fields-first.ensures.strong
+    c.strong_fields-first.ensures.before c.strong_fields-first.ensures.after in
+    counted_strong c.args.self.now c.in-Some.unswept.0 c.strong_fields-first.result.0 c.strong_fields-first.result.1 t.all c.loop-asked.self c.loop-asked.from
+    (there_same c.args.self.now c.loop-asked.self c.in-Some.unswept.0 c.in-Some.unswept.1 c.loop-asked.from t.ready t.next c.loop-asked.invariant.done)
+    c.loop-asked.invariant.begun
 
 pub sweep_field-requires-clause-field : goal.sweep_field-requires-clause-field
 sweep_field-requires-clause-field c =
-    let next = is_next _ c.args.self.now c.forwarded-object.result c.self.view_is c.requires.left c.forwarded-object.ensures in
-    copy_word c.args.self.now c.loop-index.self c.forwarded-object.result.0 c.forwarded-object.result.1 c.loop-index.index c.fields_to_sweep-count.result c.kind-kind.result
-    c.requires.ready next c.loop-index.invariant.done
-    (counted _ c.args.self.now c.forwarded-object.result.0 c.forwarded-object.result.1 c.length.result c.fields_to_sweep-count.result c.kind-kind.result c.self.view_is
-    c.requires.ready next c.kind-kind.ensures c.length.ensures c.fields_to_sweep-count.ensures.within c.fields_to_sweep-count.ensures.rest)
-    (omega arith)
+    let t = taken _ c.args.self.now c.take_unswept.new.self c.in-Some.unswept c.length.result c.strong_fields-first.result.0
+    c.strong_fields-first.result.1 c.kind-kind.result c.self.view_is c.in-Some.ensures.some c.requires.ready c.kind-kind.ensures
+    c.length.ensures c.strong_fields-first.ensures.order c.strong_fields-first.ensures.within c.strong_fields-first.ensures.strong
+    c.strong_fields-first.ensures.before c.strong_fields-first.ensures.after in
+    copy_word c.args.self.now c.loop-asked.self c.in-Some.unswept.0 c.in-Some.unswept.1 c.loop-asked.from c.in-Some-next_asked.asked.index c.strong_fields-first.result.0 c.strong_fields-first.result.1
+    t.ready t.next c.loop-asked.invariant.done t.all c.in-Some-next_asked.ensures.within.1
 
 pub sweep_field-requires-clause-own : goal.sweep_field-requires-clause-own
 sweep_field-requires-clause-own c =
-    let next = is_next _ c.args.self.now c.forwarded-object.result c.self.view_is c.requires.left c.forwarded-object.ensures in
-    λ t. there_keeps c.loop-index.self c.forwarded-object.result.0 c.forwarded-object.result.1 c.loop-index.index t
-    (swept_there c.args.self.now c.loop-index.self c.forwarded-object.result.0 c.forwarded-object.result.1 c.loop-index.index c.requires.ready next c.loop-index.invariant.done)
+    let t = taken _ c.args.self.now c.take_unswept.new.self c.in-Some.unswept c.length.result c.strong_fields-first.result.0
+    c.strong_fields-first.result.1 c.kind-kind.result c.self.view_is c.in-Some.ensures.some c.requires.ready c.kind-kind.ensures
+    c.length.ensures c.strong_fields-first.ensures.order c.strong_fields-first.ensures.within c.strong_fields-first.ensures.strong
+    c.strong_fields-first.ensures.before c.strong_fields-first.ensures.after in
+    there_keeps c.loop-asked.self c.in-Some.unswept.0 c.in-Some.unswept.1 c.in-Some-next_asked.asked.index c.in-Some-next_asked.asked.target
+    (swept_there c.args.self.now c.loop-asked.self c.in-Some.unswept.0 c.in-Some.unswept.1 c.loop-asked.from t.ready t.next c.loop-asked.invariant.done)
+    c.in-Some-next_asked.ensures.target
 
-pub loop-index-preserved : goal.loop-index-preserved
-loop-index-preserved c =
-    let next = is_next _ c.args.self.now c.forwarded-object.result c.self.view_is c.requires.left c.forwarded-object.ensures in
-    let all = counted _ c.args.self.now c.forwarded-object.result.0 c.forwarded-object.result.1 c.length.result c.fields_to_sweep-count.result c.kind-kind.result c.self.view_is
-    c.requires.ready next c.kind-kind.ensures c.length.ensures c.fields_to_sweep-count.ensures.within c.fields_to_sweep-count.ensures.rest in
-    let left = field_left c.loop-index.self c.sweep_field.new.self c.forwarded-object.result.0 c.forwarded-object.result.1 c.loop-index.index c.in_ok-sweep_field.ensures in
+pub loop-asked-preserved : goal.loop-asked-preserved
+loop-asked-preserved c =
+    let t = taken _ c.args.self.now c.take_unswept.new.self c.in-Some.unswept c.length.result c.strong_fields-first.result.0
+    c.strong_fields-first.result.1 c.kind-kind.result c.self.view_is c.in-Some.ensures.some c.requires.ready c.kind-kind.ensures
+    c.length.ensures c.strong_fields-first.ensures.order c.strong_fields-first.ensures.within c.strong_fields-first.ensures.strong
+    c.strong_fields-first.ensures.before c.strong_fields-first.ensures.after in
+    let within = c.in-Some-next_asked.ensures.within in
+    let left = field_left c.loop-asked.self c.sweep_field.new.self c.in-Some.unswept.0 c.in-Some.unswept.1 c.in-Some-next_asked.asked.index c.in_ok-sweep_field.ensures in
     record {
-      done = swept_to_more c.args.self.now c.loop-index.self c.sweep_field.new.self c.forwarded-object.result.0 c.forwarded-object.result.1 c.loop-index.index next
-          c.loop-index.invariant.done
-          (counted_within c.args.self.now c.forwarded-object.result.0 c.fields_to_sweep-count.result c.loop-index.index c.kind-kind.result all (omega arith))
+      done = swept_to_more c.args.self.now c.loop-asked.self c.sweep_field.new.self c.in-Some.unswept.0 c.in-Some.unswept.1 c.in-Some-next_asked.asked.index t.next
+          (swept_up_to c.args.self.now c.loop-asked.self c.in-Some.unswept.0 c.in-Some.unswept.1 c.loop-asked.from c.in-Some-next_asked.asked.index t.next
+          c.loop-asked.invariant.done within.0
+          (counted_within c.args.self.now c.in-Some.unswept.0 c.strong_fields-first.result.0 c.strong_fields-first.result.1 t.all c.in-Some-next_asked.asked.index (omega (arith, within.1)))
+          c.in-Some-next_asked.ensures.first)
+          (counted_inside c.args.self.now c.in-Some.unswept.0 c.strong_fields-first.result.0 c.strong_fields-first.result.1 t.all c.in-Some-next_asked.asked.index within.1)
           c.in_ok-sweep_field.ensures;
-      swept = left.swept ∙ c.loop-index.invariant.swept;
-      inbox = left.inbox ∙ c.loop-index.invariant.inbox;
-      directory = left.directory ∙ c.loop-index.invariant.directory;
+      begun = omega (arith, c.loop-asked.invariant.begun, within.0);
+      order = omega (arith, within.1);
+      left = subst (λ n. n < left_of c.args.self.now) (sym left.left) c.loop-asked.invariant.left;
+      inbox = left.inbox ∙ c.loop-asked.invariant.inbox;
+      directory = left.directory ∙ c.loop-asked.invariant.directory;
     }
 
 pub returns-clause-runs : goal.returns-clause-runs
 returns-clause-runs c =
-    let next = is_next _ c.args.self.now c.forwarded-object.result c.self.view_is c.requires.left c.forwarded-object.ensures in
-    let all = counted _ c.args.self.now c.forwarded-object.result.0 c.forwarded-object.result.1 c.length.result c.fields_to_sweep-count.result c.kind-kind.result c.self.view_is
-    c.requires.ready next c.kind-kind.ensures c.length.ensures c.fields_to_sweep-count.ensures.within c.fields_to_sweep-count.ensures.rest in
-    let end : c.loop-index.index ≡ c.fields_to_sweep-count.result = omega arith in
-    swept_runs c.args.self.now c.loop-index.self c.forwarded-object.result.0 c.forwarded-object.result.1 c.fields_to_sweep-count.result next
-    (subst (IsSweptTo c.args.self.now c.loop-index.self c.forwarded-object.result.0) end c.loop-index.invariant.done)
-    (counted_rest c.args.self.now c.forwarded-object.result.0 c.fields_to_sweep-count.result c.kind-kind.result all)
-
-pub returns-clause-swept : goal.returns-clause-swept
-returns-clause-swept c = c.loop-index.invariant.swept
-
-pub returns-clause-inbox : goal.returns-clause-inbox
-returns-clause-inbox c = c.loop-index.invariant.inbox
+    let t = taken _ c.args.self.now c.take_unswept.new.self c.in-Some.unswept c.length.result c.strong_fields-first.result.0
+    c.strong_fields-first.result.1 c.kind-kind.result c.self.view_is c.in-Some.ensures.some c.requires.ready c.kind-kind.ensures
+    c.length.ensures c.strong_fields-first.ensures.order c.strong_fields-first.ensures.within c.strong_fields-first.ensures.strong
+    c.strong_fields-first.ensures.before c.strong_fields-first.ensures.after in
+    swept_runs c.args.self.now c.loop-asked.self c.in-Some.unswept.0 c.in-Some.unswept.1 c.strong_fields-first.result.1 t.next
+    (swept_up_to c.args.self.now c.loop-asked.self c.in-Some.unswept.0 c.in-Some.unswept.1 c.loop-asked.from c.strong_fields-first.result.1 t.next
+    c.loop-asked.invariant.done c.loop-asked.invariant.order
+    (counted_within c.args.self.now c.in-Some.unswept.0 c.strong_fields-first.result.0 c.strong_fields-first.result.1 t.all c.strong_fields-first.result.1 (omega arith))
+    c.in_default-next_asked.ensures.none)
+    (counted_rest c.args.self.now c.in-Some.unswept.0 c.strong_fields-first.result.0 c.strong_fields-first.result.1 t.all)

@@ -3,8 +3,8 @@ use Rattle.sweeper.specs.Sweepers.{left_of}
 use Rattle.sweeper.proofs.WorldSwept.{IsSweptTo}
 use Rattle.sweeper.proofs.sweeper.Sweeper.sweep_next.Given as goal
 
-abbrev pub invariant-loop-from : goal.invariant-loop-from
-invariant-loop-from l = record {
+abbrev pub invariant-loop-asked : goal.invariant-loop-asked
+invariant-loop-asked l = record {
   done : IsSweptTo l.fn.self l.self l.object l.from;
   begun : l.first ≤ l.from;
   order : l.from ≤ l.end;
@@ -13,5 +13,5 @@ invariant-loop-from l = record {
   directory : l.self.places.directory ≡ l.fn.self.places.directory;
 }
 
-abbrev pub decreases-loop-from : goal.decreases-loop-from
-decreases-loop-from l = l.end - l.from
+abbrev pub decreases-loop-asked : goal.decreases-loop-asked
+decreases-loop-asked l = l.end - l.from
