@@ -36,7 +36,8 @@ index_of number sweepers t = if t % sweepers == number then t / sweepers else 25
 
 -- the table of the indices of all threads
 abbrev pub AreIndicesOf : ℕ → ℕ → List ℕ → Type 0
-AreIndicesOf number sweepers indices = (t : ℕ) → t < 64 → slice_index indices t ≡ index_of number sweepers t
+AreIndicesOf number sweepers indices =
+    (length indices ≡ 64) × ((t : ℕ) → t < 64 → slice_index indices t ≡ index_of number sweepers t)
 
 abbrev pub IsShare : ShareView → Type 0
 IsShare s = AreShareOf s.number s.sweepers s.territories

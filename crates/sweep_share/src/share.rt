@@ -1,13 +1,13 @@
 //! The share of a sweeper.
 
-ghost use Rattle.std.specs.Prelude.{◌≡◌, ◌/◌, ◌%◌, ◌<◌, ◌≤◌, ◌↔◌, IfOk, IfSome, IsSome, IsTrue, length, slice_index};
+ghost use Rattle.std.specs.Prelude.{◌≡◌, ◌/◌, ◌%◌, ◌<◌, ◌≤◌, ◌↔◌, IfOk, IfSome, IsSome, IsTrue, length, replicate, slice_index};
 ghost use Rattle.gc_mail.specs.Recipients.{owner};
 ghost use Rattle.gc_words.specs.Layout.{thread_of};
 ghost use Rattle.territory.specs.Territories.{words_of};
 ghost use Rattle.sweep_share.specs.Shares.{AreFinished, AreIndicesOf, AreRaised, AreShareOf, IsCopied, IsPut, IsRaised, IsShare, start_in, territory_at, territory_of};
 
 use gc_words::Address;
-use std::alloc::AllocError;
+use std::alloc::{AllocError, Global};
 use std::marker::Model;
 use territory::Territory;
 use trace_types::Kind;
@@ -21,7 +21,7 @@ pub struct Share {
     number: u32,
     sweepers: u32,
     /// For each thread the index of its territory, or `NOT_OWN`: an access by address divides nothing.
-    indices: [u8; 64],
+    indices: Vec<u8>,
     territories: Vec<Territory>,
 }
 
@@ -35,21 +35,28 @@ impl Model for Share {
     ghost view = { λ s. record { number = s.number; sweepers = s.sweepers; territories = s.territories.items } };
 
     ghost invariant = { λ s. AreShareOf s.number s.sweepers s.territories.items
-        × AreIndicesOf s.number s.sweepers s.indices };
+        × AreIndicesOf s.number s.sweepers s.indices.items };
 }
 
-/// For each thread the index of its territory in the share of this sweeper, or `NOT_OWN`.
-fn indices_of(number: u32, sweepers: u32) -> [u8; 64]
-    requires { 0 < sweepers }
-    ensures { AreIndicesOf number sweepers result }
+/// `NOT_OWN` for each thread.
+fn none_own(alloc: Global) -> Result<Vec<u8>, AllocError>
+    ensures { IfOk result (λ v. v.items ≡ replicate 64 255) }
 {
-    let mut indices = [NOT_OWN; 64];
+    vec![in alloc; NOT_OWN; 64]
+}
+
+/// For each thread the index of its territory in the share of this sweeper, or `NOT_OWN`. Takes memory.
+fn indices_of(alloc: Global, number: u32, sweepers: u32) -> Result<Vec<u8>, AllocError>
+    requires { 0 < sweepers }
+    ensures { IfOk result (λ v. AreIndicesOf number sweepers v.items) }
+{
+    let mut indices = none_own(alloc)?;
     for thread in 0..64 {
         if thread % sweepers == number {
             indices[thread as usize] = (thread / sweepers) as u8;
         }
     }
-    indices
+    Ok(indices)
 }
 
 /// Raises the marks of at most `cg` in each of these.
@@ -72,18 +79,25 @@ fn finish_all(territories: &mut Vec<Territory>)
 }
 
 impl Share {
-    /// The share of these territories: those of the threads `number`, `number + sweepers` and so on, in this order.
-    pub fn new(number: u32, sweepers: u32, territories: Vec<Territory>) -> Share
+    /// The share of these territories: those of the threads `number`, `number + sweepers` and so on, in this order. Takes
+    /// memory for a table of the threads; where it is refused, the territories are dropped.
+    pub fn new(
+        alloc: Global,
+        number: u32,
+        sweepers: u32,
+        territories: Vec<Territory>,
+    ) -> Result<Share, AllocError>
         requires { AreShareOf number sweepers territories.items }
-        ensures { result ≡ record { number = number; sweepers = sweepers; territories = territories.items } }
+        ensures { IfOk result (λ s.
+            s ≡ record { number = number; sweepers = sweepers; territories = territories.items }) }
     {
-        let indices = indices_of(number, sweepers);
-        Share {
+        let indices = indices_of(alloc, number, sweepers)?;
+        Ok(Share {
             number,
             sweepers,
             indices,
             territories,
-        }
+        })
     }
 
     /// How many territories there are.
