@@ -7,7 +7,6 @@ ghost use Rattle.sweep_places.specs.Places.{IsOwnStart};
 
 use directory::Directory;
 use gc_words::{Address, Value, decode, encode};
-use http_server::Log;
 use std::alloc::{AllocError, Global};
 use std::marker::Model;
 use std::snapshot::Snapshot;
@@ -28,8 +27,8 @@ pub struct Places {
     count: u64,
     /// Those that are not swept, with their places.
     unswept: Vec<(Address, Address)>,
-    /// All pairs in the order of forwarding. Proofs alone read them: the log has no bytes.
-    own: Log<Address, Address>,
+    /// All objects with their places, in the order of forwarding.
+    own: Vec<(Address, Address)>,
 }
 
 impl Model for Places {
@@ -79,7 +78,7 @@ impl Places {
             table,
             count: 0,
             unswept: Vec::new(alloc),
-            own: Log::new(),
+            own: Vec::new(alloc),
         })
     }
 
@@ -112,18 +111,19 @@ impl Places {
         requires own { IsOwnStart self.old.directory self.old.number at }
         requires absent { IsAbsent self.old.own at }
         ensures ok { OnOk result (self.new ≡ record self.old {
-            own = self.old.own ++ (at, place) ∷ [];
-            unswept = self.old.unswept ++ (at, place) ∷ [];
+          own = self.old.own ++ (at, place) ∷ [];
+          unswept = self.old.unswept ++ (at, place) ∷ [];
         }) }
         ensures few { OnOk result (length self.old.own + 1 < 2 ^ 64) }
         ensures err { OnErr result (self.new ≡ self.old) }
     {
         let count = one_more(self.count)?;
-        self.unswept.push((at, place))?;
+        self.unswept.reserve(1)?;
+        self.own.push((at, place))?;
+        self.unswept.push_reserved((at, place));
         let entry = word - self.first;
         self.table[entry] = encode(Value::Object(place));
         self.count = count;
-        self.own = self.own.and(&at, &place);
         Ok(())
     }
 

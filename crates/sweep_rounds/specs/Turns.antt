@@ -1,5 +1,5 @@
 -- All sweepers of a collection, and what their turns lead to.
-use Rattle.std.specs.Prelude.{◌≡◌, ℕ, ◌+◌, ◌-◌, ◌^◌, ◌<◌, ◌≤◌, List, [], length, min, slice_index_or, Option, Contains}
+use Rattle.std.specs.Prelude.{◌≡◌, ℕ, ◌+◌, ◌-◌, ◌^◌, ◌<◌, List, [], min, slice_index_or, Option, Contains}
 use Rattle.directory.specs.Directories.{DirectoryView}
 use Rattle.owned_core.specs.declared.slot.Slot.{Slot}
 use Rattle.owned_core.specs.Settings.{Setting}

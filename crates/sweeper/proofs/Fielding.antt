@@ -24,8 +24,7 @@ pub found_is : (d : DirectoryView) (t : ℕ) (from : FromSegment) (found : Found
 found_is d t from found lies is =
     let e : Some found ≡ Some (record { generation = from.generation; word = word_at from (offset_of t) }) =
     sym is ∙ ap (λ o. found_in o (offset_of t)) lies in
-    let same : found ≡ record { generation = from.generation; word = word_at from (offset_of t) } = same_Some _ _ e in
-    (
+    let same : found ≡ record { generation = from.generation; word = word_at from (offset_of t) } = same_Some _ _ e in (
       ap (λ (f : Found). f.generation) same,
       ap (λ (f : Found). f.word) same ∙ ap (λ o. word_or_0 o (offset_of t)) (sym lies),
     )

@@ -37,12 +37,7 @@ impl Sweeper {
 
     /// Copies an object of its own, which has no place yet.
     #[inline(always)]
-    fn copy(
-        &mut self,
-        target: Address,
-        word: usize,
-        generation: u8,
-    ) -> Result<Address, AllocError>
+    fn copy(&mut self, target: Address, word: usize, generation: u8) -> Result<Address, AllocError>
         requires may { CanKeep self.old target }
         requires word_is { word ≡ word_in self.old.places.directory target }
         requires goes { GoesTo self.old target generation }

@@ -3,7 +3,7 @@
 //! Each object belongs to the sweeper of its thread, which alone copies it. A sweeper holds its territories and registers
 //! by value, so that sweepers run in threads without sharing anything but the directory. A field that refers to an object
 //! of its own gets the object's new place at once; for another sweeper's object a message goes out, and the place comes
-//! with a message of a later round.
+//! with a message of a later round. The object that was forwarded last is swept first, so a list is followed to its end.
 //!
 //! For contracts a `Sweeper` is its share, registers, places and mail; `hand_of` makes the hand of the model of it, whose
 //! laws say that each of its steps is an event of the core. Invariant: its parts are of one sweeper of one collection.

@@ -1,4 +1,4 @@
-use Rattle.std.proofs.Common.{◌≡◌, ◌+◌, ◌-◌, ◌^◌, ◌≤◌, false, true, [], length, min, Result, Ok, Err, OnErr, OnOk, sym, ◌∙◌}
+use Rattle.std.proofs.Common.{◌≡◌, ◌+◌, ◌-◌, ◌^◌, false, true, [], min, Result, Ok, Err, OnErr, OnOk, sym, ◌∙◌}
 use Rattle.std.proofs.lemmas.Bool.{false≢true}
 use Rattle.sweeper.specs.Sweepers.{SweeperView}
 use Rattle.sweeper.specs.Ready.{RunsRound}
