@@ -18,7 +18,8 @@ fn share_of_a_pair(alloc: Global) -> Result<(Share, Address), AllocError>
     let at = territory.allocate(Kind::Pair, 2, 0, 7)?;
     let mut territories = Vec::new(alloc);
     territories.push(territory)?;
-    Ok((Share::new(alloc, 3, 64, territories)?, at))
+    let share = Share::new(alloc, 3, 64, territories)?;
+    Ok((share, at))
 }
 
 #[test]

@@ -18,7 +18,7 @@ returns c =
     let territories : List TerritoryView = c.push.new.self.items in
     let alone : territories ≡ c.allocate.new.self ∷ [] =
     c.in_ok-push.ensures.items ∙ ap (λ (v : List TerritoryView). v ++ c.allocate.new.self ∷ []) c.new-territories.ensures.items in
-    subst (λ (s : ShareView). IsSome (start_in s c.in_ok-at.at)) (sym c.new-2.ensures)
+    subst (λ (s : ShareView). IsSome (start_in s c.in_ok-at.at)) (sym c.in_ok-share.ensures)
     (subst (λ (v : List TerritoryView). IsSome (start_in (record { number = 3; sweepers = 64; territories = v }) c.in_ok-at.at)) (sym alone)
     (there c.allocate.new.self c.in_ok-at.at _
     (c.in_ok-at.ensures.address.1 ∙ ap (λ (t : TerritoryView). t.thread) c.in_ok-territory.ensures)
