@@ -5,3 +5,4 @@ pub mod Turning
 pub mod Slots
 pub mod Beginning
 pub mod Nothing
+pub mod Sent

@@ -8,8 +8,8 @@
 //! `len` and `territory` show the territories in order, and `raise_cards` raises the marks on all their cards.
 //!
 //! Invariant: the territory at index i is that of thread k + i n, and there is one for each such thread; the table has
-//! this index for each of them, and 255 for the threads of other sweepers. `copy` alone takes memory. That a collection
-//! divides the threads by remainder is this project's own.
+//! this index for each of them, and 255 for the threads of other sweepers. `new` and `copy` take memory. That a
+//! collection divides the threads by remainder is this project's own.
 //!
 //! `Registers` are the sweeper's registers, with what they hold: those whose numbers leave k when divided by n, so that
 //! register k + i n stands at index i. `register_in` is what a register of its own holds. No call takes memory.

@@ -187,15 +187,6 @@ impl Share {
         self.territory_of(at).length(at)
     }
 
-    /// A word of it, counted after the header.
-    #[inline(always)]
-    pub fn word(&self, at: Address, index: u32) -> u64
-        requires { index < length (words_of (start_in self.now at)) }
-        ensures { result ≡ slice_index (words_of (start_in self.now at)) index }
-    {
-        self.territory_of(at).word(at, index)
-    }
-
     /// All its words, after the header; for byte objects the bytes, eight a word.
     #[inline(always)]
     pub fn fields(&self, at: Address) -> &[u64]

@@ -1,15 +1,13 @@
 -- What the words of an object ask for.
-use Rattle.std.proofs.Common.{◌≡◌, ℕ, ◌+◌, ◌<◌, ◌≤◌, false, true, cond, List, length, slice_index, Option, None, Some, IfNone, IfSome, refl, sym, ap, ◌∙◌, inl, inr, arith}
+use Rattle.std.proofs.Common.{◌≡◌, ℕ, ◌+◌, ◌<◌, ◌≤◌, true, cond, List, length, slice_index, Option, None, Some, IfNone, IfSome, ap, ◌∙◌, inl, inr, arith}
 use Rattle.std.specs.Prelude.{is_some}
 use Rattle.std.proofs.lemmas.Bool.{cases_eq}
-use Rattle.std.proofs.lemmas.Option.{none-some}
-use Rattle.gc_words.specs.Layout.{offset_of}
 use Rattle.gc_words.specs.Word.{value_of}
 use Rattle.segment.specs.Segments.{Start}
 use Rattle.territory.specs.Territories.{words_of}
-use Rattle.directory.specs.declared.table.FromSegment.{FromSegment}
 use Rattle.directory.specs.declared.directory.Found.{Found}
-use Rattle.directory.specs.Directories.{DirectoryView, found_at, found_in, from_at}
+use Rattle.directory.specs.Directories.{DirectoryView, found_at}
+use Rattle.directory.proofs.Finding.{found_none, found_some}
 use Rattle.sweep_model.specs.World.{is_strong, object_in}
 use Rattle.sweeper.specs.declared.fields.Asked.{Asked}
 use Rattle.sweeper.specs.Sweepers.{AreStrong, asked_by, asked_in, if_aside}
@@ -20,24 +18,16 @@ use Rattle.sweeper.specs.Sweepers.{AreStrong, asked_by, asked_in, if_aside}
 pub refers_not : (d : DirectoryView) (word : ℕ) → object_in (value_of word) ≡ None → asked_by d word ≡ None
 refers_not d word e = ap (if_aside d) e
 
-lies_not : (o : Option FromSegment) (offset : ℕ) → found_in o offset ≡ None → is_some o ≡ false
-lies_not None offset e = refl
-lies_not (Some f) offset e = absurd (none-some _ (sym e))
-
 pub lies_elsewhere : (d : DirectoryView) (word t : ℕ) → object_in (value_of word) ≡ Some t → found_at d t ≡ None
     → asked_by d word ≡ None
 lies_elsewhere d word t e none =
-    ap (if_aside d) e ∙ ap (λ b. cond b (Some t) None) (lies_not (from_at d t) (offset_of t) none)
+    ap (if_aside d) e ∙ ap (λ o. cond (is_some o) (Some t) None) (found_none d t none)
 
 -- something in a from-segment
-lies : (o : Option FromSegment) (offset : ℕ) (f : Found) → found_in o offset ≡ Some f → is_some o ≡ true
-lies None offset f e = absurd (none-some f e)
-lies (Some from) offset f e = refl
-
 pub lies_aside : (d : DirectoryView) (word t : ℕ) (f : Found) → object_in (value_of word) ≡ Some t → found_at d t ≡ Some f
     → asked_by d word ≡ Some t
 lies_aside d word t f e is =
-    ap (if_aside d) e ∙ ap (λ b. cond b (Some t) None) (lies (from_at d t) (offset_of t) f is)
+    ap (if_aside d) e ∙ ap (λ o. cond (is_some o) (Some t) None) (found_some d t f is).lies
 
 -- one word more that asks for nothing
 pub none_more : (d : DirectoryView) (words : List ℕ) (from index : ℕ)
@@ -57,7 +47,7 @@ asked_word d s i e = ap (λ b. if_aside d (object_in (cond b (value_of (slice_in
 
 module _ (d : DirectoryView) (o : Option Start) (from end : ℕ) (within : end ≤ length (words_of o))
     (strong : AreStrong o from end) where
-  asked_there : (i : ℕ) → from ≤ i → i < end → asked_in d o i ≡ asked_by d (slice_index (words_of o) i)
+  pub asked_there : (i : ℕ) → from ≤ i → i < end → asked_in d o i ≡ asked_by d (slice_index (words_of o) i)
   asked_there i a b = there o within strong
     where
       there : (o : Option Start) → end ≤ length (words_of o) → AreStrong o from end

@@ -2,7 +2,6 @@
 use Rattle.std.proofs.Common.{◌≡◌, ℕ, ◌≤◌, Bool, true, false, List, [], ◌∷◌, ◌++◌, None, Some, IsTrue, sym, ap, subst, ◌∙◌, arith}
 use Rattle.std.proofs.lemmas.Bool.{false≢true}
 use Rattle.std.proofs.lemmas.Option.{none-some, same_Some}
-use Rattle.gc_words.specs.Layout.{offset_of}
 use Rattle.segment.specs.Segments.{Start}
 use Rattle.gc_mail.specs.declared.message.Message.{Message}
 use Rattle.gc_mail.specs.declared.message.Message.TheVariants as message
@@ -11,8 +10,8 @@ use Rattle.gc_mail.specs.Recipients.{owner}
 use Rattle.territory.specs.Finishing.{target_of}
 use Rattle.directory.specs.declared.table.FromSegment.{FromSegment}
 use Rattle.directory.specs.declared.directory.Found.{Found}
-use Rattle.directory.specs.Tables.{word_at}
-use Rattle.directory.specs.Directories.{DirectoryView, found_at, found_in, from_at, word_in, word_or_0}
+use Rattle.directory.specs.Directories.{DirectoryView, found_at, from_at, word_in}
+use Rattle.directory.proofs.Finding.{found_none, found_some}
 use Rattle.sweep_share.specs.Shares.{start_in}
 use Rattle.sweeper.specs.Sweepers.{CanKeep, FieldDone, GoesTo, IsForeign, IsKept, IsOwn, Puts, SweeperView, asked_in, sends}
 
@@ -22,12 +21,9 @@ use Rattle.sweeper.specs.Sweepers.{CanKeep, FieldDone, GoesTo, IsForeign, IsKept
 pub found_is : (d : DirectoryView) (t : ℕ) (from : FromSegment) (found : Found) → from_at d t ≡ Some from
     → found_at d t ≡ Some found → (found.generation ≡ from.generation) × (found.word ≡ word_in d t)
 found_is d t from found lies is =
-    let e : Some found ≡ Some (record { generation = from.generation; word = word_at from (offset_of t) }) =
-    sym is ∙ ap (λ o. found_in o (offset_of t)) lies in
-    let same : found ≡ record { generation = from.generation; word = word_at from (offset_of t) } = same_Some _ _ e in (
-      ap (λ (f : Found). f.generation) same,
-      ap (λ (f : Found). f.word) same ∙ ap (λ o. word_or_0 o (offset_of t)) (sym lies),
-    )
+    let there = found_some d t found is in
+    let same : there.from ≡ from = same_Some _ _ (sym there.lies ∙ lies) in
+    (there.generation ∙ ap (λ (f : FromSegment). f.generation) same, there.word)
 
 -- so the generation to which it goes
 pub goes_to_target : (v : SweeperView) (d : DirectoryView) (t refers : ℕ) (found : Found) (c : CanKeep v t)
@@ -61,7 +57,7 @@ young_there v d t found c same is =
 -- what may be kept is told of
 pub told_there : (v : SweeperView) (d : DirectoryView) (t : ℕ) → CanKeep v t → v.places.directory ≡ d → found_at d t ≡ None → ⊥
 told_there v d t c same none =
-    none-some _ (sym none ∙ ap (λ o. found_in o (offset_of t)) (ap (λ z. from_at z t) (sym same) ∙ c.lies))
+    none-some _ (sym (found_none d t none) ∙ (ap (λ z. from_at z t) (sym same) ∙ c.lies))
 
 -- ---- what a field becomes
 

@@ -13,6 +13,7 @@ pub mod AnswerParts
 pub mod AnswerSteps
 pub mod Rounds
 pub mod SweptFields
+pub mod SweptPairs
 pub mod Asked
 pub mod AskedRoots
 pub mod AskedOlds

@@ -100,6 +100,38 @@ pub(crate) fn first_asked(
 }
 
 impl Sweeper {
+    /// Handles a field of a forwarded object, of which `word` is what stands at the old place.
+    #[inline(always)]
+    pub(crate) fn sweep_word(
+        &mut self,
+        object: Address,
+        copy: Address,
+        index: u32,
+        word: u64,
+        directory: &Directory,
+    ) -> Result<(), AllocError>
+        requires same { self.old.places.directory ≡ directory.now }
+        requires asks { asked_in self.old.places.directory (start_in self.old.share object) index
+            ≡ asked_by directory.now word }
+        requires field { index < length (words_of (start_in self.old.share copy)) }
+        requires own { (t : ℕ) → asked_by directory.now word ≡ Some t
+            → owner self.old.share.sweepers t ≡ self.old.share.number → CanKeep self.old t }
+        ensures { OnOk result (FieldDone self.old self.new object copy index) }
+    {
+        let Some(target) = referred(word) else {
+            return Ok(());
+        };
+        let Some(found) = directory.find(target) else {
+            return Ok(());
+        };
+        let asked = Asked {
+            index,
+            target,
+            found,
+        };
+        self.sweep_field(object, copy, asked, directory)
+    }
+
     /// Handles a field of a forwarded object that refers to a collected one: an object of its own is kept and its place
     /// put into the copy, and another sweeper is asked for one of its own.
     #[inline(always)]

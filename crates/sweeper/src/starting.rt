@@ -165,8 +165,8 @@ impl Sweeper {
     /// The sweeper of this number of a collection, with its registers and its territories, which have begun the
     /// collection. It has asked for each collected object to which a register or an older object of its own refers:
     /// of itself, where the object is its own, else of the owner. The marks on its cards are raised, so that those
-    /// of collected generations come with the new places. Takes memory for its share, its places and its mail; AllocError where
-    /// it is refused, and what the sweeper was to have is dropped then.
+    /// of collected generations come with the new places. Takes memory for its share, its places and its mail;
+    /// AllocError where it is refused, and what the sweeper was to have is dropped then.
     pub fn new(
         alloc: Global,
         number: u32,

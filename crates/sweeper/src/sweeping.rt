@@ -12,6 +12,7 @@ use crate::fields::{Asked, first_asked, strong_fields};
 use directory::Directory;
 use gc_words::Address;
 use std::alloc::AllocError;
+use trace_types::Kind;
 
 impl Sweeper {
     /// The first strong field of an object, from one on, that refers to a collected object. It is read at the object's
@@ -56,6 +57,14 @@ impl Sweeper {
         };
         let (object, copy) = unswept;
         let kind = self.share.kind(object);
+        if let Kind::Pair = kind {
+            let fields = self.share.fields(object);
+            let car = fields[0];
+            let cdr = fields[1];
+            self.sweep_word(object, copy, 0, car, directory)?;
+            self.sweep_word(object, copy, 1, cdr, directory)?;
+            return Ok(true);
+        }
         let (first, end) = strong_fields(kind, self.share.length(object));
         let mut from = first;
         while let Some(asked) = self.next_asked(object, from, end, directory) {

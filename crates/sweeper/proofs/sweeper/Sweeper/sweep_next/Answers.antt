@@ -1,9 +1,10 @@
-use Rattle.std.proofs.Common.{◌<◌, sym, ap, subst, ◌∙◌, arith}
+use Rattle.std.proofs.Common.{◌<◌, length, sym, ap, subst, ◌∙◌, arith}
 use Rattle.sweep_places.specs.Places.{PlacesView}
 use Rattle.sweeper.specs.Sweepers.{SweeperView, left_of}
 use Rattle.sweeper.proofs.AnswerSteps.{runs_nowhere}
 use Rattle.sweeper.proofs.WorldSwept.{IsSweptTo, swept_runs, swept_there, swept_to_more, swept_up_to, there_keeps}
 use Rattle.sweeper.proofs.SweptFields.{copy_word, counted_end, counted_inside, counted_rest, counted_strong, counted_within, field_left, is_next, length_fits, next_there, popped, popped_left, taken, taken_first, there_same}
+use Rattle.sweeper.proofs.SweptPairs.{pair_asks, pair_begun, pair_copy, pair_keeps, pair_more, pair_runs, pair_taken, pair_words}
 use Rattle.sweeper.proofs.sweeper.Sweeper.sweep_next.Goals as goal
 
 pub returns-in_default-clause-runs : goal.returns-in_default-clause-runs
@@ -119,3 +120,88 @@ returns-clause-runs c =
     (counted_within c.args.self.now c.in-Some.unswept.0 c.strong_fields-first.result.0 c.strong_fields-first.result.1 t.all c.strong_fields-first.result.1 (omega arith))
     c.in_default-next_asked.ensures.none)
     (counted_rest c.args.self.now c.in-Some.unswept.0 c.strong_fields-first.result.0 c.strong_fields-first.result.1 t.all)
+
+-- ---- a pair
+
+pub fields-fields-requires : goal.fields-fields-requires
+fields-fields-requires c =
+    next_there c.self.inside.share c.args.self.now c.in-Some.unswept.0 c.in-Some.unswept.1 (ap (λ (v : SweeperView). v.share) c.self.view_is) c.requires.ready
+    (is_next _ c.args.self.now c.take_unswept.new.self c.in-Some.unswept c.self.view_is c.in-Some.ensures.some)
+
+pub bounds-fields-0 : goal.bounds-fields-0
+bounds-fields-0 c =
+    let t = pair_taken _ c.args.self.now c.take_unswept.new.self c.in-Some.unswept c.self.view_is c.in-Some.ensures.some c.requires.ready c.kind-kind.result c.kind-kind.ensures c.in-Pair.is in
+    let two = pair_words c.args.self.now c.in-Some.unswept.0 c.in-Some.unswept.1 t c.self.inside.share c.fields-fields.result.now (ap (λ (v : SweeperView). v.share) c.self.view_is) c.fields-fields.ensures in
+    omega (arith, two)
+
+pub bounds-fields-1 : goal.bounds-fields-1
+bounds-fields-1 c =
+    let t = pair_taken _ c.args.self.now c.take_unswept.new.self c.in-Some.unswept c.self.view_is c.in-Some.ensures.some c.requires.ready c.kind-kind.result c.kind-kind.ensures c.in-Pair.is in
+    let two = pair_words c.args.self.now c.in-Some.unswept.0 c.in-Some.unswept.1 t c.self.inside.share c.fields-fields.result.now (ap (λ (v : SweeperView). v.share) c.self.view_is) c.fields-fields.ensures in
+    let one : 1 < length c.fields-fields.result.now = omega (arith, two) in
+    one
+
+pub sweep_word-requires-clause-asks : goal.sweep_word-requires-clause-asks
+sweep_word-requires-clause-asks c =
+    let t = pair_taken _ c.args.self.now c.take_unswept.new.self c.in-Some.unswept c.self.view_is c.in-Some.ensures.some c.requires.ready c.kind-kind.result c.kind-kind.ensures c.in-Pair.is in
+    let at = pair_begun _ c.args.self.now c.take_unswept.new.self c.in-Some.unswept c.self.view_is c.in-Some.ensures.some c.requires.ready c.kind-kind.result c.kind-kind.ensures c.in-Pair.is c.args.directory.now c.requires.same c.in-Some.ensures.rest in
+    pair_asks c.args.self.now c.in-Some.unswept.0 c.in-Some.unswept.1 t _ c.args.directory.now 0 at (omega arith) c.self.inside.share c.fields-fields.result.now (ap (λ (v : SweeperView). v.share) c.self.view_is) c.fields-fields.ensures
+
+pub sweep_word-requires-clause-field : goal.sweep_word-requires-clause-field
+sweep_word-requires-clause-field c =
+    let t = pair_taken _ c.args.self.now c.take_unswept.new.self c.in-Some.unswept c.self.view_is c.in-Some.ensures.some c.requires.ready c.kind-kind.result c.kind-kind.ensures c.in-Pair.is in
+    let at = pair_begun _ c.args.self.now c.take_unswept.new.self c.in-Some.unswept c.self.view_is c.in-Some.ensures.some c.requires.ready c.kind-kind.result c.kind-kind.ensures c.in-Pair.is c.args.directory.now c.requires.same c.in-Some.ensures.rest in
+    pair_copy c.args.self.now c.in-Some.unswept.0 c.in-Some.unswept.1 t _ c.args.directory.now 0 at (omega arith)
+
+pub sweep_word-requires-clause-own : goal.sweep_word-requires-clause-own
+sweep_word-requires-clause-own c =
+    let t = pair_taken _ c.args.self.now c.take_unswept.new.self c.in-Some.unswept c.self.view_is c.in-Some.ensures.some c.requires.ready c.kind-kind.result c.kind-kind.ensures c.in-Pair.is in
+    let at = pair_begun _ c.args.self.now c.take_unswept.new.self c.in-Some.unswept c.self.view_is c.in-Some.ensures.some c.requires.ready c.kind-kind.result c.kind-kind.ensures c.in-Pair.is c.args.directory.now c.requires.same c.in-Some.ensures.rest in
+    pair_keeps c.args.self.now c.in-Some.unswept.0 c.in-Some.unswept.1 t _ c.args.directory.now 0 at (omega arith) _
+    (pair_asks c.args.self.now c.in-Some.unswept.0 c.in-Some.unswept.1 t _ c.args.directory.now 0 at (omega arith) c.self.inside.share c.fields-fields.result.now (ap (λ (v : SweeperView). v.share) c.self.view_is) c.fields-fields.ensures)
+
+pub sweep_word-requires-in-Pair-clause-asks : goal.sweep_word-requires-in-Pair-clause-asks
+sweep_word-requires-in-Pair-clause-asks c =
+    let t = pair_taken _ c.args.self.now c.take_unswept.new.self c.in-Some.unswept c.self.view_is c.in-Some.ensures.some c.requires.ready c.kind-kind.result c.kind-kind.ensures c.in-Pair.is in
+    let at = pair_begun _ c.args.self.now c.take_unswept.new.self c.in-Some.unswept c.self.view_is c.in-Some.ensures.some c.requires.ready c.kind-kind.result c.kind-kind.ensures c.in-Pair.is c.args.directory.now c.requires.same c.in-Some.ensures.rest in
+    let one = pair_more c.args.self.now c.in-Some.unswept.0 c.in-Some.unswept.1 t _ c.args.directory.now 0 at (omega arith) c.sweep_word.new.self c.in_ok-sweep_word.ensures in
+    pair_asks c.args.self.now c.in-Some.unswept.0 c.in-Some.unswept.1 t c.sweep_word.new.self c.args.directory.now 1 one (omega arith) c.self.inside.share c.fields-fields.result.now (ap (λ (v : SweeperView). v.share) c.self.view_is) c.fields-fields.ensures
+
+pub sweep_word-requires-in-Pair-clause-field : goal.sweep_word-requires-in-Pair-clause-field
+sweep_word-requires-in-Pair-clause-field c =
+    let t = pair_taken _ c.args.self.now c.take_unswept.new.self c.in-Some.unswept c.self.view_is c.in-Some.ensures.some c.requires.ready c.kind-kind.result c.kind-kind.ensures c.in-Pair.is in
+    let at = pair_begun _ c.args.self.now c.take_unswept.new.self c.in-Some.unswept c.self.view_is c.in-Some.ensures.some c.requires.ready c.kind-kind.result c.kind-kind.ensures c.in-Pair.is c.args.directory.now c.requires.same c.in-Some.ensures.rest in
+    let one = pair_more c.args.self.now c.in-Some.unswept.0 c.in-Some.unswept.1 t _ c.args.directory.now 0 at (omega arith) c.sweep_word.new.self c.in_ok-sweep_word.ensures in
+    pair_copy c.args.self.now c.in-Some.unswept.0 c.in-Some.unswept.1 t c.sweep_word.new.self c.args.directory.now 1 one (omega arith)
+
+pub sweep_word-requires-in-Pair-clause-own : goal.sweep_word-requires-in-Pair-clause-own
+sweep_word-requires-in-Pair-clause-own c =
+    let t = pair_taken _ c.args.self.now c.take_unswept.new.self c.in-Some.unswept c.self.view_is c.in-Some.ensures.some c.requires.ready c.kind-kind.result c.kind-kind.ensures c.in-Pair.is in
+    let at = pair_begun _ c.args.self.now c.take_unswept.new.self c.in-Some.unswept c.self.view_is c.in-Some.ensures.some c.requires.ready c.kind-kind.result c.kind-kind.ensures c.in-Pair.is c.args.directory.now c.requires.same c.in-Some.ensures.rest in
+    let one = pair_more c.args.self.now c.in-Some.unswept.0 c.in-Some.unswept.1 t _ c.args.directory.now 0 at (omega arith) c.sweep_word.new.self c.in_ok-sweep_word.ensures in
+    pair_keeps c.args.self.now c.in-Some.unswept.0 c.in-Some.unswept.1 t c.sweep_word.new.self c.args.directory.now 1 one (omega arith) _
+    (pair_asks c.args.self.now c.in-Some.unswept.0 c.in-Some.unswept.1 t c.sweep_word.new.self c.args.directory.now 1 one (omega arith) c.self.inside.share c.fields-fields.result.now (ap (λ (v : SweeperView). v.share) c.self.view_is) c.fields-fields.ensures)
+
+pub returns-in-Pair-clause-runs : goal.returns-in-Pair-clause-runs
+returns-in-Pair-clause-runs c =
+    let t = pair_taken _ c.args.self.now c.take_unswept.new.self c.in-Some.unswept c.self.view_is c.in-Some.ensures.some c.requires.ready c.kind-kind.result c.kind-kind.ensures c.in-Pair.is in
+    let at = pair_begun _ c.args.self.now c.take_unswept.new.self c.in-Some.unswept c.self.view_is c.in-Some.ensures.some c.requires.ready c.kind-kind.result c.kind-kind.ensures c.in-Pair.is c.args.directory.now c.requires.same c.in-Some.ensures.rest in
+    let one = pair_more c.args.self.now c.in-Some.unswept.0 c.in-Some.unswept.1 t _ c.args.directory.now 0 at (omega arith) c.sweep_word.new.self c.in_ok-sweep_word.ensures in
+    let both = pair_more c.args.self.now c.in-Some.unswept.0 c.in-Some.unswept.1 t c.sweep_word.new.self c.args.directory.now 1 one (omega arith) c.sweep_word-in-Pair.new.self c.in_ok-sweep_word-2.ensures in
+    pair_runs c.args.self.now c.in-Some.unswept.0 c.in-Some.unswept.1 t c.sweep_word-in-Pair.new.self c.args.directory.now both
+
+pub returns-in-Pair-clause-more : goal.returns-in-Pair-clause-more
+returns-in-Pair-clause-more c =
+    let t = pair_taken _ c.args.self.now c.take_unswept.new.self c.in-Some.unswept c.self.view_is c.in-Some.ensures.some c.requires.ready c.kind-kind.result c.kind-kind.ensures c.in-Pair.is in
+    let at = pair_begun _ c.args.self.now c.take_unswept.new.self c.in-Some.unswept c.self.view_is c.in-Some.ensures.some c.requires.ready c.kind-kind.result c.kind-kind.ensures c.in-Pair.is c.args.directory.now c.requires.same c.in-Some.ensures.rest in
+    let one = pair_more c.args.self.now c.in-Some.unswept.0 c.in-Some.unswept.1 t _ c.args.directory.now 0 at (omega arith) c.sweep_word.new.self c.in_ok-sweep_word.ensures in
+    let both = pair_more c.args.self.now c.in-Some.unswept.0 c.in-Some.unswept.1 t c.sweep_word.new.self c.args.directory.now 1 one (omega arith) c.sweep_word-in-Pair.new.self c.in_ok-sweep_word-2.ensures in
+    λ _. both.left
+
+pub returns-in-Pair-clause-inbox : goal.returns-in-Pair-clause-inbox
+returns-in-Pair-clause-inbox c =
+    let t = pair_taken _ c.args.self.now c.take_unswept.new.self c.in-Some.unswept c.self.view_is c.in-Some.ensures.some c.requires.ready c.kind-kind.result c.kind-kind.ensures c.in-Pair.is in
+    let at = pair_begun _ c.args.self.now c.take_unswept.new.self c.in-Some.unswept c.self.view_is c.in-Some.ensures.some c.requires.ready c.kind-kind.result c.kind-kind.ensures c.in-Pair.is c.args.directory.now c.requires.same c.in-Some.ensures.rest in
+    let one = pair_more c.args.self.now c.in-Some.unswept.0 c.in-Some.unswept.1 t _ c.args.directory.now 0 at (omega arith) c.sweep_word.new.self c.in_ok-sweep_word.ensures in
+    let both = pair_more c.args.self.now c.in-Some.unswept.0 c.in-Some.unswept.1 t c.sweep_word.new.self c.args.directory.now 1 one (omega arith) c.sweep_word-in-Pair.new.self c.in_ok-sweep_word-2.ensures in
+    both.inbox
