@@ -100,7 +100,7 @@ pub(crate) fn deal_registers(
     requires all { length registers.now ≡ 4096 }
     ensures { IfOk result (λ v. AreRegistersDealtTo sweepers number registers.now v.items) }
 {
-    let mut own = Vec::new(alloc);
+    let mut own = Vec::with_capacity(alloc, registers.len() / sweepers as usize + 1)?;
     let mut register = number;
     while register < registers.len() as u32 {
         own.push((register, registers[register as usize]))?;

@@ -63,7 +63,7 @@ pub(crate) fn gather_territories(
     ensures { IfOk result (λ v. AreGathered (length owns.items) owns.items v.items) }
 {
     let mut owns = owns;
-    let mut territories = Vec::new(alloc);
+    let mut territories = Vec::with_capacity(alloc, THREADS)?;
     let mut thread = THREADS;
     while thread > 0 {
         thread -= 1;

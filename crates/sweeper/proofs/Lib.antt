@@ -1,5 +1,6 @@
 pub mod Kept
 pub mod FieldWords
+pub mod StrongFields
 pub mod Fielding
 pub mod WorldSteady
 pub mod WorldReady

@@ -33,7 +33,8 @@ use Rattle.sweep_share.proofs.Numbers.{holds}
 use Rattle.sweep_share.proofs.Places.{own_start}
 use Rattle.sweeper.specs.Sweepers.{asked_in, if_aside}
 use Rattle.sweeper.specs.Starting.{AreTold, AsksOfOldsOfAll, AsksOfRegisters, IsBeginning, first_registers, first_share, generation_of}
-use Rattle.sweeper.proofs.AskedRoots.{aside_told, if_there}
+use Rattle.sweeper.proofs.StrongFields.{if_there}
+use Rattle.sweeper.proofs.AskedRoots.{aside_told}
 
 -- a slot of the sweeper's own, whose root asks for t
 pub record AsksAsRoot (world : World) (number : ℕ) (b : Slot) (t : ℕ) : Type 0 where

@@ -1,17 +1,16 @@
 -- The fields of the object that is swept, as the code counts and handles them.
-use Rattle.std.proofs.Common.{◌≡◌, ℕ, ◌+◌, ◌-◌, ◌^◌, ◌<◌, ◌≤◌, true, false, cond, List, [], ◌∷◌, ◌++◌, take, length, get_or, Option, None, Some, IsSome, IfSome, refl, sym, ap, subst, ◌∙◌, arith, length-append}
+use Rattle.std.proofs.Common.{◌≡◌, ℕ, ◌+◌, ◌-◌, ◌^◌, ◌<◌, ◌≤◌, true, false, List, [], ◌∷◌, ◌++◌, take, length, Option, Some, IsSome, IfSome, refl, sym, ap, subst, ◌∙◌, arith, length-append}
 use Rattle.std.proofs.Math.Seq.{take-append_seam}
 use Rattle.trace_types.specs.declared.kind.Kind.{Kind}
-use Rattle.trace_types.specs.declared.kind.Kind.TheVariants as kind
-use Rattle.segment.specs.Layout.{HasLength, words_after}
+use Rattle.segment.specs.Layout.{words_after}
 use Rattle.segment.specs.Segments.{Start}
 use Rattle.territory.specs.Territories.{IsShaped, words_of}
-use Rattle.gc_words.specs.Word.{value_of}
-use Rattle.sweep_model.specs.World.{is_strong, object_in}
+use Rattle.sweep_model.specs.World.{is_strong}
 use Rattle.sweep_share.specs.Shares.{ShareView, start_in}
 use Rattle.sweep_places.specs.Places.{PlacesView}
-use Rattle.sweeper.specs.Sweepers.{AreStrong, AskNothing, FieldDone, IsForeign, IsKept, IsKeptNow, IsOwn, IsPlain, SweeperView, WasKept, asked_in, if_aside, left_of}
+use Rattle.sweeper.specs.Sweepers.{AreStrong, AskNothing, FieldDone, IsForeign, IsKept, IsKeptNow, IsOwn, IsPlain, SweeperView, WasKept, asked_in, left_of}
 use Rattle.sweeper.specs.Ready.{Ready}
+use Rattle.sweeper.proofs.StrongFields.{AreCounted, before_asks_none, counted_of, end_within, length_in, strong_from}
 use Rattle.sweeper.proofs.WorldReady.{with_rest}
 use Rattle.sweeper.proofs.WorldSwept.{IsNext, IsSweptTo, next_is, one_swept, rest_of, swept_there, swept_to_none, swept_up_to, there_words}
 
@@ -74,39 +73,15 @@ there_same v u x p i r next done =
 
 -- ---- its fields
 
-pub length_most : (k : Kind) (n : ℕ) → HasLength k n → n ≤ 4000000
-length_most kind.Boxed n h = omega (arith, h)
-length_most kind.Guard n h = omega (arith, h)
-length_most kind.OrderedGuard n h = omega (arith, h)
-length_most kind.Vector n h = h
-length_most kind.ImmVector n h = h
-length_most kind.Bytes n h = h
-length_most kind.ImmBytes n h = h
-length_most kind.Pair n h = omega (arith, h)
-length_most kind.Weak n h = omega (arith, h)
-length_most kind.Eph n h = omega (arith, h)
-length_most kind.Cell n h = omega (arith, h)
-
-if_there : (o : Option Start) (P : Start → Type 0) (s : Start) → o ≡ Some s → IfSome o P → P s
-if_there o P s e h = subst (λ z. IfSome z P) e h
-
 pub length_fits : (share : ShareView) (v : SweeperView) (x p len : ℕ) → share ≡ v.share → Ready v → IsNext v x p
     → IfSome (start_in share x) (λ y. len ≡ y.length) → len ≤ 4000000
 length_fits share v x p len e r next is =
     let n = next_start v x p r next in
-    let same : len ≡ n.0.length = if_there (start_in share x) (λ y. len ≡ y.length) n.0 (ap (λ (z : ShareView). start_in z x) e ∙ n.1) is in
-    let most : n.0.length ≤ 4000000 = length_most n.0.kind n.0.length n.2.has_length in
-    omega (arith, same, most)
+    length_in (start_in share x) n.0 len (ap (λ (z : ShareView). start_in z x) e ∙ n.1) n.2 is
 
--- of the object at x, which is of this kind, these fields are strong and no others
-pub record IsCounted (v : SweeperView) (x first end : ℕ) : Type 0 where
-  pub start : Start
-  pub here : start_in v.share x ≡ Some start
-  pub order : first ≤ end
-  pub within : end ≤ length start.words
-  pub strong : (j : ℕ) → first ≤ j → j < end → is_strong start.kind j ≡ true
-  pub before : (j : ℕ) → j < first → is_strong start.kind j ≡ false
-  pub after : (j : ℕ) → end ≤ j → j < length start.words → is_strong start.kind j ≡ false
+-- of the object at x these fields are strong and no others
+abbrev pub IsCounted : SweeperView → ℕ → ℕ → ℕ → Type 0
+IsCounted v x first end = AreCounted (start_in v.share x) first end
 
 pub counted : (share : ShareView) (v : SweeperView) (x p len first end : ℕ) (k : Kind) → share ≡ v.share → Ready v → IsNext v x p
     → IfSome (start_in share x) (λ y. k ≡ y.kind) → IfSome (start_in share x) (λ y. len ≡ y.length)
@@ -115,20 +90,9 @@ pub counted : (share : ShareView) (v : SweeperView) (x p len first end : ℕ) (k
     → ((i : ℕ) → end ≤ i → i < words_after k len → is_strong k i ≡ false) → IsCounted v x first end
 counted share v x p len first end k e r next kind_is length_is order within strong before after =
     let n = next_start v x p r next in
-    let here : start_in share x ≡ Some n.0 = ap (λ (z : ShareView). start_in z x) e ∙ n.1 in
-    let k_is : k ≡ n.0.kind = if_there (start_in share x) (λ y. k ≡ y.kind) n.0 here kind_is in
-    let l_is : len ≡ n.0.length = if_there (start_in share x) (λ y. len ≡ y.length) n.0 here length_is in
-    let words : words_after k len ≡ length n.0.words =
-    ap (λ z. words_after z len) k_is ∙ (ap (words_after n.0.kind) l_is ∙ sym n.2.its_words) in
-    record {
-      start = n.0;
-      here = n.1;
-      order = order;
-      within = subst (λ z. end ≤ z) words within;
-      strong = λ j a b. ap (λ z. is_strong z j) (sym k_is) ∙ strong j a b;
-      before = λ j a. ap (λ z. is_strong z j) (sym k_is) ∙ before j a;
-      after = λ j a b. ap (λ z. is_strong z j) (sym k_is) ∙ after j a (subst (λ z. j < z) (sym words) b);
-    }
+    let here : start_in share x ≡ start_in v.share x = ap (λ (z : ShareView). start_in z x) e in
+    subst (λ o. AreCounted o first end) here
+    (counted_of (start_in share x) n.0 len first end k (here ∙ n.1) n.2 kind_is length_is order within strong before after)
 
 some_is : (s t : Start) → Some s ≡ Some t → s ≡ t
 some_is s t e = cc
@@ -150,16 +114,16 @@ module _ (v : SweeperView) (x first end : ℕ) (c : IsCounted v x first end) whe
   -- what no strong field is asks for nothing
   pub before_asks : (u : SweeperView) → start_in u.share x ≡ start_in v.share x → AskNothing u x 0 first
   before_asks u same i a b =
-      ap (λ o. asked_in u.places.directory o i) (same ∙ c.here)
-      ∙ ap (λ z. if_aside u.places.directory (object_in (cond z (value_of (get_or c.start.words i 0)) None))) (c.before i b)
+      ap (λ o. asked_in u.places.directory o i) same ∙ before_asks_none u.places.directory (start_in v.share x) first end c i b
 
   pub counted_strong : (u : SweeperView) (from : ℕ) → start_in u.share x ≡ start_in v.share x → first ≤ from
       → AreStrong (start_in u.share x) from end
   counted_strong u from same h =
-      subst (λ o. AreStrong o from end) (sym (same ∙ c.here)) (λ i a b. c.strong i (omega (arith, h, a)) b)
+      subst (λ o. AreStrong o from end) (sym same) (strong_from u.places.directory (start_in v.share x) first end c from h)
 
   pub counted_end : (u : SweeperView) → start_in u.share x ≡ start_in v.share x → end ≤ length (words_of (start_in u.share x))
-  counted_end u same = subst (λ o. end ≤ length (words_of o)) (sym (same ∙ c.here)) c.within
+  counted_end u same =
+      subst (λ o. end ≤ length (words_of o)) (sym same) (end_within u.places.directory (start_in v.share x) first end c)
 
 -- the object that was taken, and its strong fields
 pub record IsTaken (v : SweeperView) (x p first end : ℕ) : Type 0 where

@@ -1,5 +1,5 @@
 -- What a sweeper is made of, and what it asks for as it begins.
-use Rattle.std.specs.Prelude.{◌≡◌, ℕ, ◌+◌, ◌*◌, ◌%◌, ◌<◌, ◌≤◌, ◌==◌, false, true, List, [], ◌∷◌, ◌++◌, length, slice_get, if◌then◌else◌, Option, None, Some, Contains}
+use Rattle.std.specs.Prelude.{◌≡◌, ℕ, ◌+◌, ◌*◌, ◌%◌, ◌<◌, ◌≤◌, ◌==◌, false, true, List, [], ◌∷◌, ◌++◌, length, slice_get, slice_index, if◌then◌else◌, Option, None, Some, Contains}
 use Rattle.std.specs.FinMap.{get}
 use Rattle.gc_words.specs.declared.value.Value.{Value}
 use Rattle.gc_words.specs.declared.value.Value.TheVariants as value
@@ -18,7 +18,7 @@ use Rattle.sweep_model.specs.Wholes.{Begins}
 use Rattle.sweep_share.specs.Registers.{RegistersView, item_at, register_in}
 use Rattle.sweep_share.specs.Shares.{AreSound, ShareView, is_aside, start_in, territory_at}
 use Rattle.sweeper.specs.declared.starting.Mail.{Mail}
-use Rattle.sweeper.specs.Sweepers.{SweeperView, asked_in, hand_of}
+use Rattle.sweeper.specs.Sweepers.{SweeperView, asked_by, asked_in, hand_of}
 use Rattle.sweeper.specs.Ready.{Agrees, IsOrdered, IsReadyIn}
 
 -- ---- the parts of a sweeper that is made
@@ -110,6 +110,12 @@ AsksOfRegisters d s = OfFirst (AsksOfRegister d s)
 -- field i of x
 abbrev pub AsksAt : DirectoryView → TerritoryView → ℕ → ℕ → Slot → ℕ → Type 0
 AsksAt d t x i b u = (b ≡ back.Field x i) × (asked_in d (get t.starts x) i ≡ Some u)
+
+-- the words of x from one on and before another, under cards that tell of collected generations, ask for nothing
+abbrev pub AskNothingOld : DirectoryView → TerritoryView → ℕ → ℕ → ℕ → Type 0
+AskNothingOld d t x from end =
+    (i : ℕ) → from ≤ i → i < end → card_byte t x i ≤ d.targets.cg
+    → asked_by d (slice_index (words_of (get t.starts x)) i) ≡ None
 
 -- field i of x, under a card that tells of a collected generation
 abbrev pub AsksOfField : DirectoryView → TerritoryView → ℕ → ℕ → Slot → ℕ → Type 0

@@ -17,19 +17,8 @@ use gc_words::{Address, Value, decode};
 use std::alloc::AllocError;
 use trace_types::Kind;
 
-/// Whether a word of an object of this kind is a strong field: not the car of a weak pair, nor the key and value of an
-/// ephemeron, nor bytes.
-pub(crate) fn is_strong(kind: Kind, index: u32) -> bool
-    ensures { result ≡ is_strong kind index }
-{
-    match kind {
-        Kind::Weak => index != 0,
-        Kind::Eph | Kind::Bytes | Kind::ImmBytes => false,
-        _ => true,
-    }
-}
-
-/// The strong fields of an object: they begin at the first number, and end before the second.
+/// The strong fields of an object: not the car of a weak pair, nor the key and value of an ephemeron, nor bytes. They
+/// begin at the first number, and end before the second.
 #[inline(always)]
 pub(crate) fn strong_fields(kind: Kind, length: u32) -> (u32, u32)
     requires { length ≤ 4000000 }

@@ -15,10 +15,11 @@ ghost use Rattle.sweep_model.specs.World.{IsWorld, World};
 ghost use Rattle.sweep_share.specs.Registers.{AreRegistersOf};
 ghost use Rattle.sweep_share.specs.Shares.{AreShareOf, IsShare, territory_at};
 ghost use Rattle.sweeper.specs.Starting.{AreAsked, AreTold, IsBeginning, IsBegun};
-ghost use Rattle.sweeper.specs.Starting.{AsksAt, AsksFor, AsksOfObject, AsksOfOlds, AsksOfOldsOfAll, AsksOfRegisters};
+ghost use Rattle.sweeper.specs.Starting.{AsksFor, AsksOfObject, AsksOfOlds, AsksOfOldsOfAll, AsksOfRegisters};
 
 use crate::Sweeper;
-use crate::fields::{is_strong, referred};
+use crate::fields::strong_fields;
+use crate::olds::next_old_asked;
 use directory::Directory;
 use gc_mail::{Inbox, Message, Outbox, Slot};
 use gc_words::{Address, Value};
@@ -26,7 +27,6 @@ use std::alloc::{AllocError, Global};
 use sweep_places::Places;
 use sweep_share::{Registers, Share};
 use territory::Territory;
-use trace_types::Kind;
 
 /// The first mail: what a sweeper asks of itself, and what of others.
 #[derive(Drop)]
@@ -78,30 +78,6 @@ impl Mail {
         Ok(())
     }
 
-    /// Asks for what a word of an object refers to, where the word is a strong field.
-    fn ask_field(
-        &mut self,
-        kind: Kind,
-        object: Address,
-        index: u32,
-        territory: &Territory,
-        share: &Share,
-        directory: &Directory,
-    ) -> Result<(), AllocError>
-        requires kind_is { (s : Start) → map.get territory.now.starts object ≡ Some s → s.kind ≡ kind }
-        requires word { index < length (words_of (map.get territory.now.starts object)) }
-        ensures { OnOk result (AreAsked share.now self.old self.new
-            (AsksAt directory.now territory.now object index)) }
-    {
-        if !is_strong(kind, index) {
-            return Ok(());
-        }
-        if let Some(target) = referred(territory.word(object, index)) {
-            self.ask(target, Slot::Field { object, index }, share, directory)?;
-        }
-        Ok(())
-    }
-
     /// Asks for what the fields of an older object refer to. Those under cards that tell of collected generations
     /// are looked at, and no other refers to a collected object.
     fn ask_object(
@@ -116,10 +92,16 @@ impl Mail {
             (AsksOfObject directory.now territory.now object
             (length (words_of (map.get territory.now.starts object))))) }
     {
-        let kind = territory.kind(object);
-        let mut from = 0;
-        while let Some(index) = territory.next_dirty_word(object, from, directory.cg()) {
-            self.ask_field(kind, object, index, territory, share, directory)?;
+        let (first, end) = strong_fields(territory.kind(object), territory.length(object));
+        let mut from = first;
+        while let Some(asked) = next_old_asked(territory, object, from, end, directory) {
+            let index = asked.index;
+            self.ask(
+                asked.target,
+                Slot::Field { object, index },
+                share,
+                directory,
+            )?;
             from = index + 1;
         }
         Ok(())

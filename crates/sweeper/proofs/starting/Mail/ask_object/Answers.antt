@@ -1,55 +1,56 @@
-use Rattle.std.proofs.Common.{◌≡◌, ◌<◌, ◌≤◌, length, sym, subst, arith}
+use Rattle.std.proofs.Common.{arith}
 use Rattle.std.specs.FinMap.{get}
-use Rattle.segment.specs.Segments.{Start}
-use Rattle.territory.specs.Territories.{card_byte, words_of}
-use Rattle.sweeper.specs.Starting.{AsksOfField}
-use Rattle.sweeper.proofs.Asked.{asked_first}
-use Rattle.sweeper.proofs.AskedRoots.{few_words, field_asked, fields_done, if_there}
+use Rattle.sweeper.proofs.StrongFields.{counted_some, end_within, length_some}
+use Rattle.sweeper.proofs.AskedRoots.{field_next, fields_done, fields_first}
 use Rattle.sweeper.proofs.starting.Mail.ask_object.Goals as goal
 
-pub ask_field-requires : goal.ask_field-requires
-ask_field-requires c = record {
-  kind_is = λ s e. sym (if_there (get c.args.territory.now.starts c.args.object)
-      (λ (x : Start). c.kind-kind.result ≡ x.kind) s e c.kind-kind.ensures.value);
-  word = c.in-Some.ensures.some.1;
-}
+pub strong_fields-first-requires : goal.strong_fields-first-requires
+strong_fields-first-requires c =
+    length_some (get c.args.territory.now.starts c.args.object) c.length.result c.requires c.length.ensures.shaped c.length.ensures.value
 
-pub overflow_add-from : goal.overflow_add-from
-overflow_add-from c =
-    let few : length (words_of (get c.args.territory.now.starts c.args.object)) ≤ 4000000 =
-    few_words _ c.kind-kind.ensures.shaped in
-    omega (arith, c.in-Some.ensures.some.1, few)
+pub loop-asked-init : goal.loop-asked-init
+loop-asked-init c =
+    let all = counted_some (get c.args.territory.now.starts c.args.object) c.length.result c.strong_fields-first.result.0 c.strong_fields-first.result.1 c.kind.result
+    c.requires c.kind.ensures.shaped c.kind.ensures.value c.length.ensures.value c.strong_fields-first.ensures.order
+    c.strong_fields-first.ensures.within c.strong_fields-first.ensures.strong c.strong_fields-first.ensures.before
+    c.strong_fields-first.ensures.after in
+    record {
+      asked = fields_first c.args.share.now c.args.self.now c.args.self.now c.args.directory.now c.args.territory.now c.args.object c.strong_fields-first.result.0 c.strong_fields-first.result.1 all;
+      begun = omega arith;
+      order = c.strong_fields-first.ensures.order;
+    }
 
-pub loop-index-init : goal.loop-index-init
-loop-index-init c = record {
-  asked = asked_first c.args.share.now c.args.self.now
-      (AsksOfField c.args.directory.now c.args.territory.now c.args.object);
-  within = omega arith;
-}
+pub next_old_asked-requires : goal.next_old_asked-requires
+next_old_asked-requires c =
+    let all = counted_some (get c.args.territory.now.starts c.args.object) c.length.result c.strong_fields-first.result.0 c.strong_fields-first.result.1 c.kind.result
+    c.requires c.kind.ensures.shaped c.kind.ensures.value c.length.ensures.value c.strong_fields-first.ensures.order
+    c.strong_fields-first.ensures.within c.strong_fields-first.ensures.strong c.strong_fields-first.ensures.before
+    c.strong_fields-first.ensures.after in
+    record {
+      start = c.requires;
+      end = end_within c.args.directory.now (get c.args.territory.now.starts c.args.object) c.strong_fields-first.result.0 c.strong_fields-first.result.1 all;
+    }
 
-pub loop-index-preserved : goal.loop-index-preserved
-loop-index-preserved c = record {
-  asked = field_asked c.args.share.now c.args.self.now c.loop-index.self c.ask_field.new.self
-      c.args.directory.now c.args.territory.now
-      c.args.object c.loop-index.from c.in-Some.index c.in-Some.ensures.some.0 c.loop-index.invariant.asked
-      (subst (λ n. card_byte c.args.territory.now c.args.object c.in-Some.index ≤ n) c.cg.ensures.value
-      c.in-Some.ensures.dirty)
-      (λ j low high. subst (λ n. n < card_byte c.args.territory.now c.args.object j) c.cg.ensures.value
-      (c.in-Some.ensures.least j low high))
-      c.in_ok-ask_field.ensures;
-  within = omega (arith, c.in-Some.ensures.some.1);
-}
-
-pub loop-index-smaller : goal.loop-index-smaller
-loop-index-smaller c =
-    omega (arith, c.in-Some.ensures.some.0, c.in-Some.ensures.some.1, c.loop-index.invariant.within)
+pub loop-asked-preserved : goal.loop-asked-preserved
+loop-asked-preserved c =
+    let all = counted_some (get c.args.territory.now.starts c.args.object) c.length.result c.strong_fields-first.result.0 c.strong_fields-first.result.1 c.kind.result
+    c.requires c.kind.ensures.shaped c.kind.ensures.value c.length.ensures.value c.strong_fields-first.ensures.order
+    c.strong_fields-first.ensures.within c.strong_fields-first.ensures.strong c.strong_fields-first.ensures.before
+    c.strong_fields-first.ensures.after in
+    let found = c.in-Some.ensures in
+    record {
+      asked = field_next c.args.share.now c.args.self.now c.loop-asked.self c.args.directory.now c.args.territory.now c.args.object c.strong_fields-first.result.0 c.strong_fields-first.result.1 all
+          c.ask.new.self c.loop-asked.from c.in-Some.asked.index c.in-Some.asked.target c.loop-asked.invariant.begun
+          found.within.0 found.within.1 c.loop-asked.invariant.asked found.first found.marked found.target c.in_ok-ask.ensures;
+      begun = omega (arith, c.loop-asked.invariant.begun, found.within.0);
+      order = omega (arith, found.within.1);
+    }
 
 pub returns : goal.returns
 returns c =
-    fields_done c.args.share.now c.args.self.now c.loop-index.self c.args.directory.now c.args.territory.now
-    c.args.object
-    c.loop-index.from (length (words_of (get c.args.territory.now.starts c.args.object)))
-    c.loop-index.invariant.within
-    c.loop-index.invariant.asked
-    (λ j low high. subst (λ n. n < card_byte c.args.territory.now c.args.object j) c.cg.ensures.value
-    (c.in_default.ensures.none j low high))
+    let all = counted_some (get c.args.territory.now.starts c.args.object) c.length.result c.strong_fields-first.result.0 c.strong_fields-first.result.1 c.kind.result
+    c.requires c.kind.ensures.shaped c.kind.ensures.value c.length.ensures.value c.strong_fields-first.ensures.order
+    c.strong_fields-first.ensures.within c.strong_fields-first.ensures.strong c.strong_fields-first.ensures.before
+    c.strong_fields-first.ensures.after in
+    fields_done c.args.share.now c.args.self.now c.loop-asked.self c.args.directory.now c.args.territory.now c.args.object c.strong_fields-first.result.0 c.strong_fields-first.result.1 all c.loop-asked.from
+    c.loop-asked.invariant.begun c.loop-asked.invariant.order c.loop-asked.invariant.asked c.in_default.ensures.none
