@@ -90,8 +90,8 @@ fn counted(args: CollectArgs, before: u64) -> Option<u64>
 /// collection counts itself first, and collects by its number.
 ///
 /// `Failed` comes where the heap had failed, and `Fault(BadGeneration)` where version and oldest generation do not allow
-/// the arguments; the heap is then as before. Where memory runs out the heap has failed; as more than 2^64 plain
-/// collections, rounds or messages would be, that is `NoMemory`. A gate is passed by each sweeper in each round. `mail`
+/// the arguments; the heap is then as before. Where memory runs out the heap has failed; as 2^64 plain collections,
+/// rounds or messages would be, that is `NoMemory`. A gate is passed by each sweeper in each round. `mail`
 /// takes a step for each round and each message, and `steps` one for each registration that is read.
 ///
 /// Generations and targets are as in Chez Scheme; which arguments are allowed, the sweepers and the rounds are this

@@ -103,7 +103,7 @@ pub(crate) fn deal_registers(
     let mut own = Vec::with_capacity(alloc, registers.len() / sweepers as usize + 1)?;
     let mut register = number;
     while register < registers.len() as u32 {
-        own.push((register, registers[register as usize]))?;
+        own.push_reserved((register, registers[register as usize]));
         register += sweepers;
     }
     Ok(own)

@@ -14,7 +14,7 @@ use std::thread::Threads;
 use steps::Steps;
 use trace_types::{CollectArgs, Command};
 
-/// The same with counters of these ledgers, which nobody reads.
+/// Collects the heap with counters of these ledgers, which nobody reads.
 fn collect_on<R: Threads + Sync, G: Gate, M: Ledger, L: Ledger>(
     rt: &R,
     heap: &mut Heap,
@@ -40,10 +40,8 @@ fn collect_on<R: Threads + Sync, G: Gate, M: Ledger, L: Ledger>(
 {
     let mut mail = Steps::<M>::new(mail);
     let mut steps = Steps::<L>::new(steps);
-    match collect(rt, heap, args, sweepers, gate, &mut mail, &mut steps) {
-        Ok(_) => Ok(()),
-        Err(error) => Err(error),
-    }
+    collect(rt, heap, args, sweepers, gate, &mut mail, &mut steps)?;
+    Ok(())
 }
 
 /// Collects the heap by so many sweepers.
