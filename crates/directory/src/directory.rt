@@ -1,6 +1,6 @@
 //! What is collected, and which word each possible start has.
 
-ghost use Rattle.std.specs.Prelude.{◌≡◌, ◌↔◌, ℕ, ◌+◌, ◌^◌, ◌<◌, ◌≤◌, length, slice_index, Option, IfOk, IfSome, IsSome, IsTrue};
+ghost use Rattle.std.specs.Prelude.{◌≡◌, ◌↔◌, ℕ, ◌+◌, ◌^◌, ◌<◌, ◌≤◌, length, slice_index, Option, IfOk, IfSome, IsTrue};
 ghost use Rattle.directory.specs.Tables.{aside_at, shown};
 ghost use Rattle.territory.specs.Finishing.{target_of};
 ghost use Rattle.directory.specs.Directories.{found_at, from_at, from_in, owner_in, start_of, sweeper_count, word_in, AreOfThreads, HasOwnWords, HaveBegun, IsCollected, IsWithin, TellsApart};

@@ -1,6 +1,6 @@
 //! Words for the from-segments of territories, one after the other.
 
-ghost use Rattle.std.specs.Prelude.{◌≡◌, ◌<◌, ◌≤◌, [], length, IfOk};
+ghost use Rattle.std.specs.Prelude.{◌≡◌, ◌<◌, ◌≤◌, length, IfOk};
 ghost use Rattle.directory.specs.Numbered.{IsNumbered, AreNumbered};
 
 use crate::table::{FromSegment, FromTable, run};

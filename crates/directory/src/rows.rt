@@ -1,7 +1,7 @@
 //! Rows of a directory whose answers are known from outside.
 
-ghost use Rattle.std.specs.Prelude.{◌≡◌, ◌≤◌, ◌<◌, IfOk, true};
-ghost use Rattle.directory.specs.Directories.{AreOfThreads, HaveBegun, IsCollected};
+ghost use Rattle.std.specs.Prelude.{◌≡◌, ◌≤◌, ◌<◌, IfOk};
+ghost use Rattle.directory.specs.Directories.{AreOfThreads, HaveBegun};
 
 use crate::directory::Directory;
 use gc_words::Address;

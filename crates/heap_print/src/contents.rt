@@ -1,6 +1,6 @@
 //! What is printed of an object: its fields, or of a guardian the values of its queue.
 
-ghost use Rattle.std.specs.Prelude.{◌≡◌, ◌≢◌, ◌+◌, ◌/◌, ◌≤◌, Some, IfSome, IfNone, ◌∷◌, ◌++◌, [], List, ℕ, length, flat_map, map, slice_index, OnOk, IfOk};
+ghost use Rattle.std.specs.Prelude.{◌≡◌, ◌≢◌, ◌+◌, ◌/◌, ◌≤◌, Some, IfSome, IfNone, ◌∷◌, ◌++◌, [], List, ℕ, length, flat_map, map, OnOk, IfOk};
 ghost use Rattle.std.specs.FinMap.{get};
 ghost use Rattle.gc_words.specs.Layout.{IsAddress};
 ghost use Rattle.gc_words.specs.Word.{value_of};

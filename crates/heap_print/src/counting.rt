@@ -1,6 +1,6 @@
 //! Counting: a walk over all starts of a heap.
 
-ghost use Rattle.std.specs.Prelude.{◌≡◌, ◌↔◌, ◌<◌, ◌≤◌, ◌*◌, ℕ, true, false, length, IsSome, IfOk, OnErr, Err};
+ghost use Rattle.std.specs.Prelude.{◌≡◌, ◌↔◌, ◌<◌, ◌≤◌, ◌*◌, true, false, length, IsSome, IfOk, OnErr, Err};
 ghost use Rattle.std.specs.FinMap.{get};
 ghost use Rattle.trace_types.specs.States.{State};
 ghost use Rattle.trace_types.specs.WellFormed.{greatest_line};

@@ -1,6 +1,6 @@
 //! The calls that read or change a field of an object.
 
-ghost use Rattle.std.specs.Prelude.{◌≡◌, ◌≢◌, ◌↔◌, ℕ, ◌<◌, ◌≤◌, pos, true, false, length, slice_get, slice_index_or, Some, Ok, Err, IfOk, IfSome, OnOk, OnErr, IsSome, IsTrue, MatchOption};
+ghost use Rattle.std.specs.Prelude.{◌≡◌, ◌≢◌, ◌↔◌, ℕ, ◌<◌, pos, true, false, length, slice_get, slice_index_or, Some, Ok, Err, IfOk, IfSome, OnOk, OnErr, IsSome, IsTrue, MatchOption};
 ghost use Rattle.std.specs.FinMap.{get};
 ghost use Rattle.gc_words.specs.Layout.{thread_of};
 ghost use Rattle.gc_words.specs.declared.address.TheConstants.{THREADS};

@@ -1,12 +1,10 @@
 //! The heap: its parts, and the calls that look at no object.
 
-ghost use Rattle.std.specs.Prelude.{◌≡◌, ◌≢◌, ◌↔◌, ◌<◌, ◌≤◌, ℕ, true, false, replicate, length, Ok, Err, IfOk, OnOk, OnErr, IsTrue};
-ghost use Rattle.trace_types.specs.States.{State, opening};
+ghost use Rattle.std.specs.Prelude.{◌≡◌, ◌≢◌, ◌↔◌, ◌<◌, ◌≤◌, true, false, replicate, Ok, Err, IfOk, OnOk, OnErr, IsTrue};
+ghost use Rattle.trace_types.specs.States.{opening};
 ghost use Rattle.trace_types.specs.Steps.{step};
 ghost use Rattle.trace_types.specs.WellFormed.{greatest_line, operand_fits};
 ghost use Rattle.gc_words.specs.declared.value.Value.{Value};
-ghost use Rattle.heap_store.specs.Starts.{Keeps};
-ghost use Rattle.heap_store.specs.HeapView.{starts_of};
 ghost use Rattle.heap_store.specs.Changes.{HaveSoundCards};
 ghost use Rattle.heap_store.specs.Stands.{Stands};
 ghost use Rattle.heap_store.specs.Calls.{Performs, PerformsOnAnyLine, IsLeft, IsValid, operand_value};

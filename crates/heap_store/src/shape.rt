@@ -1,8 +1,6 @@
 //! New objects in a territory.
 
-ghost use Rattle.std.specs.Prelude.{◌≡◌, ℕ, ◌+◌, ◌/◌, ◌<◌, ◌≤◌, [], ◌∷◌, replicate, Some, IfOk};
-ghost use Rattle.std.specs.FinMap.{get};
-ghost use Rattle.segment.specs.Segments.{Start};
+ghost use Rattle.std.specs.Prelude.{◌≡◌, ◌+◌, ◌/◌, ◌<◌, ◌≤◌, [], ◌∷◌, replicate};
 ghost use Rattle.segment.specs.Layout.{words_after, HasLength};
 ghost use Rattle.heap_store.specs.Changes.{HasYoung, MakesStart, HasFilled, new_start};
 ghost use Rattle.heap_store.specs.Shapes.{packed, packed_word, start_of, HasSize};

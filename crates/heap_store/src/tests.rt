@@ -1,6 +1,6 @@
 //! What the calls answer, by worked rows.
 
-ghost use Rattle.std.specs.Prelude.{◌≡◌, ◌<◌};
+ghost use Rattle.std.specs.Prelude.{◌<◌};
 
 use crate::{Heap, HeapError};
 use gc_words::Value;

@@ -1,7 +1,7 @@
 //! Two sweepers in threads of their own, each of which stores the place of an object of its own and looks
 //! for that of the other. What either learnt is what the other stored, whatever the schedule.
 
-ghost use Rattle.std.specs.Prelude.{◌≡◌, ℕ, ◌<◌, [], ◌∷◌, length, slice_index_or, All, Contains, IfOk};
+ghost use Rattle.std.specs.Prelude.{◌≡◌, ℕ, ◌<◌, [], ◌∷◌, length, slice_index_or, All, Contains};
 ghost use Rattle.live_forward.specs.Forwarding.{Agrees, Owns};
 ghost use Rattle.live_forward.specs.Meeting.{IsReady, Learns, LearnsFrom};
 

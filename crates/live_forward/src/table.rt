@@ -1,6 +1,6 @@
 //! The table of forwarding words, and the steps on it.
 
-ghost use Rattle.std.specs.Prelude.{◌≡◌, ℕ, ◌+◌, ◌<◌, ◌≤◌, length, true, None, Some, Contains, IfOk, IfSome, IfNone};
+ghost use Rattle.std.specs.Prelude.{◌≡◌, ℕ, ◌+◌, ◌<◌, ◌≤◌, length, None, Some, Contains, IfOk, IfSome, IfNone};
 ghost use Rattle.live_forward.specs.Forwarding.{place_word, IsPlace, IsRanged, Owns, Records, Agrees, first_view, without_rights, split_off, claimed, stored, saw, joined};
 
 use crate::plays::{Claim, Cut, Forwarding, Gather, Load, Settle, Store};

@@ -1,6 +1,6 @@
 //! The seats of all sweepers, claimed and split in turn.
 
-ghost use Rattle.std.specs.Prelude.{◌≡◌, ℕ, ◌<◌, [], length, slice_index_or, vec_len, IfOk};
+ghost use Rattle.std.specs.Prelude.{◌≡◌, ℕ, ◌<◌, length, slice_index_or, vec_len, IfOk};
 ghost use Rattle.live_forward.specs.Forwarding.{first_view};
 ghost use Rattle.live_forward.specs.Seats.{IsSeatOf};
 

@@ -3,7 +3,7 @@
 ghost use Rattle.std.specs.Prelude.{◌≡◌, ◌++◌, codes, decimal, map, filter, length, sum, IfOk, OnOk, flat_map};
 ghost use Rattle.trace_types.specs.Values.{size_of};
 ghost use Rattle.trace_types.specs.Rules.{has};
-ghost use Rattle.trace_types.specs.Printing.{of_generation, words_of, census_text, size_text};
+ghost use Rattle.trace_types.specs.Printing.{of_generation, census_text};
 ghost use Rattle.plain_model.specs.Census.{generation_line};
 
 use crate::births::Births;

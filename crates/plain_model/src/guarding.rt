@@ -1,6 +1,6 @@
 //! The commands on guardians.
 
-ghost use Rattle.std.specs.Prelude.{◌≡◌, ◌∷◌, ◌++◌, [], drop, MatchOption, OnOk, Some};
+ghost use Rattle.std.specs.Prelude.{◌≡◌, ◌∷◌, [], drop, MatchOption, OnOk, Some};
 ghost use Rattle.trace_types.specs.States as states;
 ghost use Rattle.trace_types.specs.Values as values;
 ghost use Rattle.trace_types.specs.Steps.{step, or_itself, with_registration};

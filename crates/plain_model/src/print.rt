@@ -2,7 +2,7 @@
 
 ghost use Rattle.std.specs.Prelude.{◌≡◌, ◌++◌, ◌∷◌, [], Some, IsTrue, map, fold, IfOk, OnOk, flat_map};
 ghost use Rattle.std.specs.List.{list_all};
-ghost use Rattle.trace_types.specs.Values.{object_at, objects_in, queue_values, is_byte, has_bytes};
+ghost use Rattle.trace_types.specs.Values.{object_at, objects_in, is_byte, has_bytes};
 ghost use Rattle.trace_types.specs.Printing.{contents, with_number, numbering, numbered_at};
 ghost use Rattle.trace_types.specs.Printing.{value_text, byte_text, content_text, object_line, print_text};
 ghost use Rattle.plain_model.specs.Plain.{meaning, queued};

@@ -2,7 +2,6 @@
 
 ghost use Rattle.std.specs.Prelude.{◌≡◌, ◌∷◌, [], ◌++◌, ◌&&◌, map, flat_map, IfOk, OnOk};
 ghost use Rattle.trace_types.specs.Values.{objects_in};
-ghost use Rattle.trace_types.specs.Rules.{facts};
 ghost use Rattle.trace_types.specs.Kept.{accessible, accessible_or_served, as_though, as_though_member, is_candidate, is_dead, is_given, is_ordered, is_ready, is_unordered, is_unready, kept, ready, served, unready_rules, waited_for};
 ghost use Rattle.plain_model.specs.Plain.{Alike, meaning};
 ghost use Rattle.plain_model.specs.Reached.{IsAccessible, IsServed, IsWaitedFor, IsKept, kept_rules_with};

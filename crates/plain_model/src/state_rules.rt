@@ -1,6 +1,6 @@
 //! The rules and roots of a state.
 
-ghost use Rattle.std.specs.Prelude.{◌≡◌, ◌++◌, map, flat_map, IfOk, OnOk};
+ghost use Rattle.std.specs.Prelude.{◌≡◌, ◌++◌, flat_map, IfOk, OnOk};
 ghost use Rattle.trace_types.specs.States as states;
 ghost use Rattle.trace_types.specs.Kept as kept;
 ghost use Rattle.trace_types.specs.Kept.{object_rules, registration_rules};

@@ -1,7 +1,6 @@
 // The lines of a source, performed one by one.
-ghost use Rattle.std.specs.Prelude.{◌≡◌, ◌<◌, ◌≤◌, ◌^◌, [], Some, List, ℕ, length, OnOk};
-ghost use Rattle.std.specs.Io.KnownBytes.{Keeps};
-ghost use Rattle.gc_io.specs.Outside.{HasCause, StaysFlushed};
+ghost use Rattle.std.specs.Prelude.{◌≡◌, ◌<◌, ◌≤◌, [], Some, List, ℕ, length, OnOk};
+ghost use Rattle.gc_io.specs.Outside.{StaysFlushed};
 ghost use Rattle.trace_types.specs.States.{State};
 ghost use Rattle.heap_store.specs.Stands.{Stands};
 ghost use Rattle.replay.specs.Words.{IsInRange};

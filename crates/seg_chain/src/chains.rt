@@ -1,6 +1,6 @@
 //! The lists of some chains, linked by index.
 
-ghost use Rattle.std.specs.Prelude.{◌≡◌, ◌≢◌, ℕ, ◌+◌, ◌<◌, ◌∷◌, ◌++◌, List, [], length, slice_get, replicate, Contains, IfOk, OnOk, OnErr};
+ghost use Rattle.std.specs.Prelude.{◌≡◌, ◌≢◌, ℕ, ◌+◌, ◌<◌, List, [], length, slice_get, replicate, Contains, IfOk, OnOk, OnErr};
 ghost use Rattle.seg_chain.specs.Lists.{chain_of, link_count, with_last, moved, spliced, EachOnce, NextIs};
 
 use crate::links::{add_node, attach, detach, join_circles, own_numbers};

@@ -1,7 +1,7 @@
 //! How objects lie in words: what a header says, and how many words an object takes. The layout is this
 //! project's own, after the typed objects of Chez Scheme ("Don't Stop the BIBOP", 1994).
 
-ghost use Rattle.std.specs.Prelude.{◌≡◌, ℕ, ◌+◌, ◌*◌, ◌/◌, ◌<◌, ◌≤◌};
+ghost use Rattle.std.specs.Prelude.{◌≡◌, ◌+◌, ◌*◌, ◌/◌, ◌<◌, ◌≤◌};
 ghost use Rattle.segment.specs.Layout.{code_of, kind_of_code, first_word, kind_of, length_of, words_after, count_of, size_of};
 
 use crate::space::Space;

@@ -1,6 +1,6 @@
 //! A segment: its making, its reading, and new objects and words in it.
 
-ghost use Rattle.std.specs.Prelude.{◌≡◌, ◌≢◌, ◌+◌, ◌/◌, ◌*◌, ◌<◌, ◌≤◌, ◌↔◌, false, length, slice_index, IsTrue};
+ghost use Rattle.std.specs.Prelude.{◌≡◌, ◌+◌, ◌/◌, ◌*◌, ◌<◌, ◌↔◌, false, length, slice_index, IsTrue};
 ghost use Rattle.segment.specs.Layout.{size_of};
 ghost use Rattle.segment.specs.Segments.{IsStart, HasRoom, count_of_births, is_some_marked, object_at, place_in, grown, put_in, marked_at};
 

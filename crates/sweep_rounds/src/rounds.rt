@@ -1,6 +1,6 @@
 //! A round of all sweepers.
 
-ghost use Rattle.std.specs.Prelude.{◌≡◌, ℕ, ◌<◌, ◌≤◌, false, OnOk, length, slice_index_or};
+ghost use Rattle.std.specs.Prelude.{◌≡◌, ℕ, ◌<◌, false, OnOk, length};
 ghost use Rattle.sweeper.specs.Sweepers.{SweeperView};
 ghost use Rattle.sweeper.specs.Ready.{Ready};
 ghost use Rattle.sweep_rounds.specs.Turns.{Rounded, Rounds, sweeper_at};

@@ -45,6 +45,7 @@ module _ (s : ShareView) (new : List TerritoryView) (cg : ℕ) (raised : AreRais
     starts = λ a. ap (λ o. cond (owner s.sweepers a == s.number) o None)
         (same (λ t. get t.starts a) (λ i r. ap (λ m. get m a) r.starts) (thread_of a / s.sweepers));
     there = same (λ t. t.starts) (λ i r. r.starts);
+    marks = λ i n h. (raised.each i h).segments n;
     sound = λ g tells old i h.
         let below : i < length s.territories = omega (arith, h, raised.count) in
         (raised.each i below).sound g tells (old i below);

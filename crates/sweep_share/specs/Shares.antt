@@ -119,11 +119,14 @@ pub record IsRaisedThere (old new : TerritoryView) (cg : ℕ) : Type 0 where
 abbrev pub AreRaised : ℕ → List TerritoryView → List TerritoryView → Type 0
 AreRaised cg = IsEach (λ t u. IsRaisedThere t u cg)
 
--- Nothing but cards changed. They are sound as before by generations above cg.
+-- The marks of at most cg were raised in each territory, and nothing else changed. The cards are sound as before by
+-- generations above cg.
 pub record IsRaised (old new : ShareView) (cg : ℕ) : Type 0 where
   pub alike : IsAlike old new
   pub starts : (a : ℕ) → start_in new a ≡ start_in old a
   pub there : (i : ℕ) → (territory_at new i).starts ≡ (territory_at old i).starts
+  pub marks : (i n : ℕ) → i < length old.territories
+      → segment_at (territory_at new i) n ≡ option_map (when_raised cg) (segment_at (territory_at old i) n)
   pub sound : (generation_at : ℕ → Option ℕ) → TellsAbove cg generation_at
       → AreSound generation_at old → AreSound generation_at new
 

@@ -1,6 +1,6 @@
 //! The fields of a forwarded object.
 
-ghost use Rattle.std.specs.Prelude.{◌≡◌, ◌⊎◌, ℕ, ◌^◌, ◌<◌, ◌≤◌, ◌↔◌, false, true, None, Some, IfNone, IfSome, IsTrue, OnOk, length, slice_index};
+ghost use Rattle.std.specs.Prelude.{◌≡◌, ℕ, ◌<◌, ◌≤◌, false, true, None, Some, IfNone, IfSome, OnOk, length, slice_index};
 ghost use Rattle.segment.specs.Layout.{words_after};
 ghost use Rattle.directory.specs.Directories.{found_at};
 ghost use Rattle.gc_mail.specs.Recipients.{owner};

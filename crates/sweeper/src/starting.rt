@@ -1,13 +1,12 @@
 //! A sweeper begins: it asks for what its registers and its older objects refer to.
 //!
-//! What a sweeper looks at is its roots: registers, and strong fields of objects that are not collected. Of these only
-//! words under marked cards are looked at, since sound cards tell of every reference to a younger object. Each root is
-//! asked for once, by a message in the sweeper's own inbox where the object is its own, else in its outbox; so the first
-//! round has nothing to do but to handle messages and to sweep.
+//! What a sweeper asks for is its roots: what registers refer to, and strong fields of objects that are not collected. Of
+//! these fields only those under marked cards are asked for, since sound cards tell of every reference to a younger
+//! object. Each root is asked for once, by a message in the sweeper's own inbox where the object is its own, else in its
+//! outbox; so the first round has nothing to do but to handle messages and to sweep.
 
-ghost use Rattle.std.specs.Prelude.{◌≡◌, ℕ, ◌<◌, ◌≤◌, Some, IfOk, IsSome, OnOk, [], false, length};
+ghost use Rattle.std.specs.Prelude.{◌≡◌, ℕ, ◌<◌, Some, IfOk, IsSome, OnOk, [], false, length};
 ghost use Rattle.std.specs.FinMap as map;
-ghost use Rattle.segment.specs.Segments.{Start};
 ghost use Rattle.territory.specs.Olds.{olds_of};
 ghost use Rattle.territory.specs.Territories.{words_of};
 ghost use Rattle.directory.specs.Directories.{sweeper_count};
@@ -78,8 +77,8 @@ impl Mail {
         Ok(())
     }
 
-    /// Asks for what the fields of an older object refer to. Those under cards that tell of collected generations
-    /// are looked at, and no other refers to a collected object.
+    /// Asks for what the strong fields of an older object refer to. Those under cards that tell of collected generations
+    /// are asked for, and no other refers to a collected object.
     fn ask_object(
         &mut self,
         object: Address,

@@ -1,6 +1,5 @@
 //! A sweeper and its parts.
 
-ghost use Rattle.std.specs.Prelude.{◌≡◌, ◌↔◌, IsTrue, length};
 
 use gc_mail::{Inbox, Outbox};
 use std::marker::Model;

@@ -1,6 +1,6 @@
 //! Forwarded objects are swept.
 
-ghost use Rattle.std.specs.Prelude.{◌≡◌, ◌+◌, ◌<◌, ◌≤◌, [], ℕ, None, Some, true, false, IfNone, IfOk, IfSome, OnOk, length};
+ghost use Rattle.std.specs.Prelude.{◌≡◌, ◌+◌, ◌<◌, ◌≤◌, [], None, Some, true, false, IfNone, IfOk, IfSome, OnOk, length};
 ghost use Rattle.directory.specs.Directories.{found_at};
 ghost use Rattle.territory.specs.Territories.{words_of};
 ghost use Rattle.sweep_share.specs.Shares.{start_in};

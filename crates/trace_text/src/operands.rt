@@ -1,6 +1,6 @@
 //! The classes of operands, one function each.
 
-ghost use Rattle.std.specs.Prelude.{◌≡◌, ◌≤◌, IfOk};
+ghost use Rattle.std.specs.Prelude.{◌≡◌};
 ghost use Rattle.trace_types.specs.Reading.{register, negated, plain, value, count, byte, thread, generation, generation_or_static, mode, register_but, is_register as is_the_register, value_but};
 
 use crate::numeral::read_numeral;

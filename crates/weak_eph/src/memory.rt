@@ -1,10 +1,8 @@
 //! Weak fields in memory.
 
-ghost use Rattle.std.specs.Prelude.{◌≡◌, ℕ, ◌<◌, List, eqb, length};
-ghost use Rattle.std.specs.Map.{lookup};
+ghost use Rattle.std.specs.Prelude.{◌<◌};
 ghost use Rattle.weak_eph.specs.declared.fields.WeakSlot.{WeakSlot};
-ghost use Rattle.weak_eph.specs.declared.fields.WeakState.TheVariants.{Waiting, Fixed, Broken};
-ghost use Rattle.weak_eph.specs.Slots.{HasKey, HasState, with_state};
+ghost use Rattle.weak_eph.specs.declared.fields.WeakState.TheVariants.{Fixed, Broken};
 
 use crate::fields::{WeakFields, WeakSlot, WeakState};
 use gc_words::Address;

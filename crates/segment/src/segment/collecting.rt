@@ -1,7 +1,7 @@
 //! What a collection does with a segment: it sets it aside, holds starts at their place, and in the end
 //! keeps those alone. A segment without a held start is given back whole.
 
-ghost use Rattle.std.specs.Prelude.{◌≡◌, ℕ, ◌+◌, ◌<◌, false, length, vec_len, replicate};
+ghost use Rattle.std.specs.Prelude.{◌≡◌, ℕ, ◌<◌, false, vec_len};
 ghost use Rattle.segment.specs.declared.segment.Role.TheVariants.{From};
 ghost use Rattle.segment.specs.Segments.{IsStart, is_free, set_aside, held_at, count_of_births, marked_births, kept_marked, spot, kept_spot};
 

@@ -2,7 +2,6 @@
 
 ghost use Rattle.std.specs.Prelude.{◌≡◌, ℕ, ◌*◌, ◌<◌, ◌≤◌, true, false, length, vec_len, slice_index, replicate, None, IfOk, OnOk, OnErr};
 ghost use Rattle.gc_words.specs.declared.address.TheConstants.{OFFSETS};
-ghost use Rattle.cards.specs.Cards.{card_count};
 ghost use Rattle.segment.specs.Segments.{is_free, vacant, opened, renewed, emptied, given_back, spot};
 
 use super::{Role, Segment};

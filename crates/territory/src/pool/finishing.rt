@@ -1,9 +1,9 @@
 //! The end of a collection: from-segments are kept with the starts that are held in them, or given back.
 
-ghost use Rattle.std.specs.Prelude.{◌≡◌, ◌<◌, ◌≤◌, ◌+◌, ℕ, true, false, cond, length, slice_set, Contains, All};
+ghost use Rattle.std.specs.Prelude.{◌≡◌, ◌<◌, ◌+◌, ℕ, true, false, cond, length, slice_set, Contains, All};
 ghost use Rattle.seg_chain.specs.Lists.{chain_of, link_count, times, without, moved, EachOnce};
 ghost use Rattle.segment.specs.declared.segment.Role.TheVariants.{From};
-ghost use Rattle.segment.specs.Segments.{IsSound, is_free, is_some_marked, given_back, kept_marked};
+ghost use Rattle.segment.specs.Segments.{IsSound, is_free, given_back, kept_marked};
 ghost use Rattle.territory.specs.Pools.{IsSettled, numbered, is_held, cells_in, list_of};
 ghost use Rattle.territory.specs.FinishedPools.{IsHoldable, AreHeld, IsFinishedAt, AreFinished};
 

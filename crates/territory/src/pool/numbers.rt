@@ -1,6 +1,6 @@
 //! Numbers of segments: a free one is used again before a new one.
 
-ghost use Rattle.std.specs.Prelude.{◌≡◌, ◌<◌, ◌≤◌, length, IfOk, OnOk, OnErr};
+ghost use Rattle.std.specs.Prelude.{◌≡◌, ◌<◌, ◌≤◌, length, IfOk, OnOk};
 ghost use Rattle.gc_words.specs.declared.address.TheConstants.{SEGMENTS};
 ghost use Rattle.seg_chain.specs.Lists.{chain_of, link_count, EachOnce};
 ghost use Rattle.territory.specs.Pools.{IsSettled};

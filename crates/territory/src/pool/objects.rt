@@ -1,6 +1,6 @@
 //! Objects in the segments of a pool.
 
-ghost use Rattle.std.specs.Prelude.{◌≡◌, ◌≢◌, ◌<◌, cond, length, false, slice_set};
+ghost use Rattle.std.specs.Prelude.{◌≡◌, ◌<◌, cond, length, false, slice_set};
 ghost use Rattle.segment.specs.Layout.{size_of, skip_of, kind_of, length_of, HasLength};
 ghost use Rattle.segment.specs.Segments.{HasRoom, IsStart, is_free, object_at, grown, put_in};
 ghost use Rattle.seg_chain.specs.Lists.{chain_of};

@@ -1,8 +1,7 @@
 //! Room for an object: in the open segment of its area, or in a segment that is opened for it.
 
-ghost use Rattle.std.specs.Prelude.{◌≡◌, ◌+◌, ◌*◌, ◌<◌, ◌≤◌, nat_lt, if◌then◌else◌, cond, is_some, length, slice_index_or, slice_set, Some, None, IfOk, IfSome, OnErr};
+ghost use Rattle.std.specs.Prelude.{◌≡◌, ◌+◌, ◌*◌, ◌<◌, ◌≤◌, cond, is_some, length, slice_index_or, slice_set, Some, None, IfOk, IfSome, OnErr};
 ghost use Rattle.gc_words.specs.declared.address.TheConstants.{OFFSETS};
-ghost use Rattle.territory.specs.Territories.{area_of};
 ghost use Rattle.territory.specs.Pools.{IsSettled};
 ghost use Rattle.territory.specs.Changes.{IsSame, IsOpened, IsOpenRoom, IsRoom};
 
