@@ -1,12 +1,12 @@
 -- What a directory's invariant tells of words.
-use Rattle.std.proofs.Common.{◌≡◌, ◌⊎◌, ℕ, ◌+◌, ◌%◌, ◌^◌, ◌<◌, ◌≤◌, List, length, take, sum, Option, Some, None, IsSome, refl, sym, ◌∙◌, ap, subst, arith}
+use Rattle.std.proofs.Common.{◌≡◌, ◌⊎◌, ℕ, ◌+◌, ◌%◌, ◌^◌, ◌<◌, ◌≤◌, List, [], length, take, sum, get_or, Option, Some, None, IsSome, refl, sym, ◌∙◌, ap, subst, arith}
 use Rattle.std.proofs.lemmas.Option.{same_Some}
-use Rattle.std.proofs.lemmas.List.{take_all}
+use Rattle.std.proofs.lemmas.List.{take_all, get_or_default}
 use Rattle.std.proofs.lemmas.List.Sums.{sum_by-take-le}
 use Rattle.gc_words.specs.Layout.{address_of, thread_of, segment_of, offset_of}
 use Rattle.gc_words.proofs.LayoutLaws.{address_of-its_parts}
 use Rattle.directory.specs.declared.table.FromSegment.{FromSegment}
-use Rattle.directory.specs.Tables.{entry_at, run_of, word_at, HasWord}
+use Rattle.directory.specs.Tables.{entry_at, entry_in, run_of, word_at, HasWord}
 use Rattle.directory.specs.Directories.{DirectoryView, IsSound, HasOwnWords, TellsApart, IsWithin, from_at, from_in, owner_in, word_in, word_or_0, start_of}
 use Rattle.directory.proofs.Words.{its_word, same_offset, offset_in}
 
@@ -49,10 +49,13 @@ starts_below ranges k =
 pub lies_in : (d : DirectoryView) (a : ℕ) (e : FromSegment) → from_at d a ≡ Some e → (entry_at d.tables (thread_of a) (segment_of a) ≡ Some e) × (offset_of a < e.size)
 lies_in d a e h = offset_in (entry_at d.tables (thread_of a) (segment_of a)) (offset_of a) e h
 
+pub entry_fits : (d : DirectoryView) (firsts : List ℕ) (t n : ℕ) (e : FromSegment) → IsSound d.ranges firsts d.tables → entry_at d.tables t n ≡ Some e → e.first_word + run_of e.size ≤ 2 ^ 64
+entry_fits d firsts t n e s h =
+    let own : (start_of d.ranges (t % length d.ranges) ≤ e.first_word) × (e.first_word + run_of e.size ≤ start_of d.ranges (t % length d.ranges + 1)) = s.own t n e h in
+    omega (arith, own.1, starts_below d.ranges (t % length d.ranges + 1), s.fits)
+
 pub word_fits : (d : DirectoryView) (firsts : List ℕ) (a : ℕ) (e : FromSegment) → IsSound d.ranges firsts d.tables → from_at d a ≡ Some e → e.first_word + run_of e.size ≤ 2 ^ 64
-word_fits d firsts a e s h =
-    let own : (start_of d.ranges (thread_of a % length d.ranges) ≤ e.first_word) × (e.first_word + run_of e.size ≤ start_of d.ranges (thread_of a % length d.ranges + 1)) = s.own (thread_of a) (segment_of a) e (lies_in d a e h).0 in
-    omega (arith, own.1, starts_below d.ranges (thread_of a % length d.ranges + 1), s.fits)
+word_fits d firsts a e s h = entry_fits d firsts (thread_of a) (segment_of a) e s (lies_in d a e h).0
 
 pub own_word : (d : DirectoryView) (firsts : List ℕ) (a : ℕ) (e : FromSegment) → IsSound d.ranges firsts d.tables → from_at d a ≡ Some e → IsWithin d.ranges (owner_in d a) (word_at e (offset_of a))
 own_word d firsts a e s h =
@@ -78,3 +81,11 @@ sound_now d v firsts e s = subst (λ (w : DirectoryView). IsSound w.ranges first
 pub found_now : (d v : DirectoryView) (tables : List (List (Option FromSegment))) (a : ℕ) (e : FromSegment) → v ≡ d → tables ≡ v.tables → Some e ≡ from_in tables a → from_at d a ≡ Some e
 found_now d v tables a e same are found =
     ap (λ (w : DirectoryView). from_at w a) (sym same) ∙ (ap (λ w. from_in w a) (sym are) ∙ sym found)
+
+-- what a look into the table of a thread finds
+pub entry_now : (d v : DirectoryView) (table : List (Option FromSegment)) (thread segment t n : ℕ) (e : FromSegment) → v ≡ d → thread < length v.tables → table ≡ get_or v.tables thread table → thread ≡ t → segment ≡ n → Some e ≡ entry_in table segment → entry_at d.tables t n ≡ Some e
+entry_now d v table thread segment t n e same small its by_thread by_segment found =
+    ap (λ (w : DirectoryView). entry_at w.tables t n) (sym same)
+    ∙ (ap (λ x. entry_at v.tables x n) (sym by_thread)
+    ∙ (ap (λ x. entry_at v.tables thread x) (sym by_segment)
+    ∙ (ap (λ x. entry_in x segment) (get_or_default v.tables thread [] table small ∙ sym its) ∙ sym found)))

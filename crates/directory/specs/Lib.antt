@@ -1,3 +1,4 @@
 pub mod Tables
 pub mod Numbered
 pub mod Directories
+pub mod Nears

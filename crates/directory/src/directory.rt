@@ -25,13 +25,13 @@ pub struct Found {
 /// them. Sweeper k has the objects of the threads that leave k when divided by the number of sweepers.
 #[derive(Drop)]
 pub struct Directory {
-    targets: Targets,
+    pub(crate) targets: Targets,
     /// How many words each sweeper has.
     ranges: Vec<usize>,
     /// The first of them.
     firsts: Vec<usize>,
     /// The from-segments of each thread.
-    tables: Vec<FromTable>,
+    pub(crate) tables: Vec<FromTable>,
 }
 
 impl Model for Directory {
@@ -66,6 +66,19 @@ fn from_segment(tables: &[FromTable], at: Address) -> Option<FromSegment>
         Some(from)
     } else {
         None
+    }
+}
+
+/// Where an object of a generation goes, be it collected or not.
+#[inline(always)]
+pub(crate) fn target_in(targets: Targets, generation: u8) -> u8
+    requires { targets.min ≤ targets.max }
+    ensures { result ≡ target_of targets generation }
+{
+    if generation < targets.max {
+        (generation + 1).max(targets.min)
+    } else {
+        targets.max
     }
 }
 
@@ -169,8 +182,7 @@ impl Directory {
         ensures value { result ≡ target_of self.now.targets generation }
         ensures range { result ≤ 8 }
     {
-        let targets = self.targets;
-        (generation + 1).max(targets.min).min(targets.max)
+        target_in(self.targets, generation)
     }
 
     /// The word of a collected address. It lies in its owner's range, and no two possible starts have the

@@ -8,13 +8,16 @@
 //! For contracts a `Directory` is its targets, its ranges and a table of from-segments for each thread.
 //! Invariant: the words of a from-segment lie in the range of its owner, and no two have a word in common.
 //! `new` alone takes memory. No call searches: a look-up is an index by thread and one by segment number, and
-//! `find` tells by one look-up all that a collection wants to know of a reference.
+//! `find` tells by one look-up all that a collection wants to know of a reference. `find_near` needs none where
+//! the reference before it led into the same from-segment.
 #![tactic(auto)]
 
 mod directory;
+mod near;
 mod numbering;
 #[cfg(test)]
 mod rows;
 mod table;
 
 pub use directory::{Directory, Found};
+pub use near::Near;

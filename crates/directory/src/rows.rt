@@ -2,8 +2,10 @@
 
 ghost use Rattle.std.specs.Prelude.{◌≡◌, ◌≤◌, ◌<◌, IfOk};
 ghost use Rattle.directory.specs.Directories.{AreOfThreads, HaveBegun};
+ghost use Rattle.directory.specs.Nears.{IsNear};
 
 use crate::directory::Directory;
+use crate::near::Near;
 use gc_words::Address;
 use std::alloc::{AllocError, Global};
 use std::test::Fail;
@@ -69,6 +71,15 @@ fn asked(directory: &Directory, at: Address) -> Option<(u8, usize)> {
     }
 }
 
+/// The same by a look-up that remembers the from-segment, and the generation to which an object there goes.
+fn seen_near(directory: &Directory, near: &mut Near, at: Address) -> Option<(u8, usize, u8)>
+    requires near { IsNear directory.now near.old }
+    ensures near { IsNear directory.now near.new }
+{
+    let found = directory.find_near(near, at)?;
+    Some((found.generation, found.word, near.target))
+}
+
 /// The first word and the range of a sweeper, where there is one of this number.
 fn range(directory: &Directory, sweeper: u32) -> Option<(usize, usize)> {
     if sweeper < directory.sweepers() {
@@ -115,6 +126,35 @@ fn what_is_collected(rt: HostRuntime) -> Result<(), Fail> {
         );
         assert_eq!(rt;
             asked(&directory, at),
+            expected,
+            "{thread} {segment} {offset}"
+        );
+    }
+    Ok(())
+}
+
+#[test]
+fn what_lies_near(rt: HostRuntime) -> Result<(), Fail> {
+    let alloc = rt.alloc();
+    let territories = all_begun(alloc, TARGETS)?;
+    let directory = &Directory::new(alloc, &territories, TARGETS, 1)?;
+    let mut near = Near::none();
+    for (thread, segment, offset, expected) in [
+        (2, 0, 0, None),
+        (0, 0, 2, Some((0, 2, 1))),
+        (0, 0, 510, Some((0, 256, 1))),
+        (0, 0, 512, None),
+        (0, 0, 0, Some((0, 1, 1))),
+        (0, 2, 0, None),
+        (0, 0, 4, Some((0, 3, 1))),
+        (0, 1, 0, Some((1, 257, 2))),
+        (0, 1, 200, Some((1, 257, 2))),
+        (1, 1, 0, Some((1, 514, 2))),
+        (1, 0, 0, Some((0, 258, 1))),
+    ] {
+        let at = Address::new(thread, segment, offset).ok_or("an address")?;
+        assert_eq!(rt;
+            seen_near(directory, &mut near, at),
             expected,
             "{thread} {segment} {offset}"
         );

@@ -123,6 +123,21 @@ impl Places {
         }
     }
 
+    /// Puts the place of an object of its own into the table, as the last of so many.
+    #[inline(always)]
+    fn enter(&mut self, at: Address, word: usize, place: Address, count: u64)
+        requires word_is { word ≡ word_in self.old.directory at }
+        requires own { IsOwnStart self.old.directory self.old.number at }
+        requires absent { IsAbsent self.old.own at }
+        requires count { count ≡ length self.old.own + 1 }
+        ensures { self.new ≡ record self.old { own = self.old.own ++ (at, place) ∷ [] } }
+    {
+        self.own = self.own.and(&at, &place);
+        let entry = word - self.first;
+        self.table[entry] = encode(Value::Object(place));
+        self.count = count;
+    }
+
     /// Notes the place of an object of its own, which was not forwarded before and is to be swept. Err where memory is
     /// refused, or where there would be more objects than a `u64` counts; it changes nothing.
     #[inline(always)]
@@ -140,10 +155,23 @@ impl Places {
         let count = one_more(self.count)?;
         push_listed(&mut self.unswept, self.last)?;
         self.last = Some((at, place));
-        self.own = self.own.and(&at, &place);
-        let entry = word - self.first;
-        self.table[entry] = encode(Value::Object(place));
-        self.count = count;
+        self.enter(at, word, place, count);
+        Ok(())
+    }
+
+    /// The same for an object that the caller sweeps now, as if it had taken it at once. Takes no memory: Err only where
+    /// there would be more objects than a `u64` counts; it changes nothing.
+    #[inline(always)]
+    pub fn note_taken(&mut self, at: Address, word: usize, place: Address) -> Result<(), AllocError>
+        requires word_is { word ≡ word_in self.old.directory at }
+        requires own { IsOwnStart self.old.directory self.old.number at }
+        requires absent { IsAbsent self.old.own at }
+        ensures ok { OnOk result (self.new ≡ record self.old { own = self.old.own ++ (at, place) ∷ [] }) }
+        ensures few { OnOk result (length self.old.own + 1 < 2 ^ 64) }
+        ensures err { OnErr result (self.new ≡ self.old) }
+    {
+        let count = one_more(self.count)?;
+        self.enter(at, word, place, count);
         Ok(())
     }
 

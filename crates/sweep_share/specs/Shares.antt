@@ -1,5 +1,6 @@
 -- What contracts see of a share: its territories, in order of their threads.
-use Rattle.std.specs.Prelude.{◌≡◌, ◌≢◌, ℕ, ◌+◌, ◌*◌, ◌/◌, ◌%◌, ◌<◌, ◌≤◌, ◌==◌, Bool, false, List, [], length, slice_index, slice_index_or, slice_set, option_map, Option, None, Some, if◌then◌else◌, refl}
+use Rattle.std.specs.Prelude.{◌≡◌, ◌≢◌, ℕ, ◌+◌, ◌*◌, ◌/◌, ◌%◌, ◌<◌, ◌≤◌, ◌==◌, Bool, false, List, [], ◌∷◌, length, slice_index, slice_index_or, slice_set, option_map, Option, None, Some, IfSome, if◌then◌else◌, refl}
+use Rattle.trace_types.specs.declared.kind.Kind.TheVariants.{Pair}
 use Rattle.std.specs.Coded.{Coded, code_by, coded×, coded_ℕ, coded_list}
 use Rattle.std.specs.FinMap.{get}
 use Rattle.gc_words.specs.declared.address.TheConstants.{THREADS}
@@ -53,6 +54,10 @@ territory_of s a = slice_index_or s.territories (thread_of a / s.sweepers) (no_t
 -- what starts at an address of its own
 abbrev pub start_in : ShareView → ℕ → Option Start
 start_in s a = if owner s.sweepers a == s.number then get (territory_of s a).starts a else None
+
+-- the start is a pair of these words
+abbrev pub IsPairOf : Option Start → ℕ → ℕ → Type 0
+IsPairOf start car cdr = IfSome start (λ x. (x.kind ≡ Pair) × (x.words ≡ car ∷ cdr ∷ []))
 
 -- whether the address of its own lies in a from-segment
 abbrev pub is_from_one : Option SegmentView → Bool

@@ -1,10 +1,11 @@
 //! The share of a sweeper.
 
-ghost use Rattle.std.specs.Prelude.{◌≡◌, ◌/◌, ◌%◌, ◌<◌, ◌≤◌, ◌↔◌, IfOk, IfSome, IsSome, IsTrue, length, replicate};
+ghost use Rattle.std.specs.Prelude.{◌≡◌, ◌≢◌, ◌/◌, ◌%◌, ◌<◌, ◌≤◌, ◌↔◌, IfNone, IfOk, IfSome, IsSome, IsTrue, length, replicate};
+ghost use Rattle.trace_types.specs.declared.kind.Kind.TheVariants.{Pair};
 ghost use Rattle.gc_mail.specs.Recipients.{owner};
 ghost use Rattle.gc_words.specs.Layout.{thread_of};
 ghost use Rattle.territory.specs.Territories.{words_of};
-ghost use Rattle.sweep_share.specs.Shares.{AreFinished, AreIndicesOf, AreRaised, AreShareOf, IsCopied, IsPut, IsRaised, IsShare, start_in, territory_at, territory_of};
+ghost use Rattle.sweep_share.specs.Shares.{AreFinished, AreIndicesOf, AreRaised, AreShareOf, IsCopied, IsPairOf, IsPut, IsRaised, IsShare, start_in, territory_at, territory_of};
 
 use gc_words::Address;
 use std::alloc::{AllocError, Global};
@@ -194,6 +195,21 @@ impl Share {
         ensures { result.now ≡ words_of (start_in self.now at) }
     {
         self.territory_of(at).fields(at)
+    }
+
+    /// The two words of a start that is a pair. None exactly where it is none.
+    #[inline(always)]
+    pub fn pair(&self, at: Address) -> Option<(u64, u64)>
+        requires { IsSome (start_in self.now at) }
+        ensures some { IfSome result (λ words. IsPairOf (start_in self.now at) words.0 words.1) }
+        ensures none { IfNone result (IfSome (start_in self.now at) (λ x. x.kind ≢ Pair)) }
+    {
+        let territory = self.territory_of(at);
+        let Kind::Pair = territory.kind(at) else {
+            return None;
+        };
+        let fields = territory.fields(at);
+        Some((fields[0], fields[1]))
     }
 
     /// Puts a word into a start, at an index that is counted after its header, and marks its card where `refers`, the

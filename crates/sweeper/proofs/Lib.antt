@@ -14,6 +14,7 @@ pub mod AnswerParts
 pub mod AnswerSteps
 pub mod Rounds
 pub mod SweptFields
+pub mod InHand
 pub mod SweptPairs
 pub mod Asked
 pub mod AskedRoots

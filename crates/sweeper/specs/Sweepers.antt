@@ -15,9 +15,10 @@ use Rattle.territory.specs.Finishing.{target_of}
 use Rattle.directory.specs.Directories.{DirectoryView, IsCollected, from_at, sweeper_count}
 use Rattle.sweep_model.specs.World.{is_strong, object_in, strong_value}
 use Rattle.sweep_model.specs.Hands.{Hand, IsCopiedNow, IsPutAt, IsRegisterSet}
-use Rattle.sweep_share.specs.Shares.{AreSound, IsAlike, ShareView, is_aside, start_in}
+use Rattle.sweep_share.specs.Shares.{AreSound, IsAlike, IsPairOf, ShareView, is_aside, start_in}
 use Rattle.sweep_share.specs.Registers.{RegistersView, register_in}
 use Rattle.sweep_places.specs.Places.{IsOwnStart, PlacesView}
+use Rattle.sweeper.specs.declared.lists.NextPair.{NextPair}
 
 -- The territories and registers that it serves; the places of its objects, in the order of forwarding, and which of them
 -- are not swept; its mail; which round comes next, and whether a round ran out of memory.
@@ -48,6 +49,19 @@ hand_of v = record {
   inbox = v.inbox;
   outbox = v.outbox;
 }
+
+-- with an object that was taken and is not swept yet: x, whose copy stands at p
+abbrev pub in_hand : SweeperView → ℕ → ℕ → SweeperView
+in_hand v x p = record v { places = record v.places { unswept = v.places.unswept ++ (x, p) ∷ [] } }
+
+-- with the pair that is swept next in hand, where there is one
+abbrev pub with_next : SweeperView → Option NextPair → SweeperView
+with_next v None = v
+with_next v (Some pair) = in_hand v pair.object pair.copy
+
+-- its words are those of the object
+abbrev pub IsNextPair : SweeperView → NextPair → Type 0
+IsNextPair v pair = IsPairOf (start_in v.share pair.object) pair.car pair.cdr
 
 -- ---- what a field asks for, as the directory tells it
 

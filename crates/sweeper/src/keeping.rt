@@ -5,7 +5,7 @@ ghost use Rattle.territory.specs.Territories.{words_of};
 ghost use Rattle.directory.specs.Directories.{word_in};
 ghost use Rattle.sweep_model.specs.Hands.{IsAbsent};
 ghost use Rattle.sweep_share.specs.Shares.{start_in};
-ghost use Rattle.sweeper.specs.Sweepers.{CanKeep, Copies, GoesTo, HasField, HasWord, IsAtIn, IsKept, Puts, Writes};
+ghost use Rattle.sweeper.specs.Sweepers.{CanKeep, Copies, GoesTo, HasField, HasWord, IsAtIn, IsKept, Puts, Writes, in_hand};
 
 use crate::Sweeper;
 use directory::Directory;
@@ -47,6 +47,26 @@ impl Sweeper {
     {
         let place = self.share.copy(target, generation)?;
         self.places.note(target, word, place)?;
+        Ok(place)
+    }
+
+    /// The same, where the caller sweeps the object now.
+    #[inline(always)]
+    pub(crate) fn copy_taken(
+        &mut self,
+        target: Address,
+        word: usize,
+        generation: u8,
+    ) -> Result<Address, AllocError>
+        requires may { CanKeep self.old target }
+        requires word_is { word ≡ word_in self.old.places.directory target }
+        requires goes { GoesTo self.old target generation }
+        requires generation_in { generation ≤ 8 }
+        requires absent { IsAbsent self.old.places.own target }
+        ensures { IfOk result (λ place. Copies self.old (in_hand self.new target place) target place) }
+    {
+        let place = self.share.copy(target, generation)?;
+        self.places.note_taken(target, word, place)?;
         Ok(place)
     }
 

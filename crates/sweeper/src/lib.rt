@@ -15,6 +15,7 @@ mod answering;
 mod calls;
 mod fields;
 mod keeping;
+mod lists;
 mod olds;
 mod round;
 mod starting;

@@ -1,6 +1,5 @@
 //! A sweeper and its parts.
 
-
 use gc_mail::{Inbox, Outbox};
 use std::marker::Model;
 use sweep_places::Places;

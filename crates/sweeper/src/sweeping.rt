@@ -4,15 +4,15 @@ ghost use Rattle.std.specs.Prelude.{◌≡◌, ◌+◌, ◌<◌, ◌≤◌, [], 
 ghost use Rattle.directory.specs.Directories.{found_at};
 ghost use Rattle.territory.specs.Territories.{words_of};
 ghost use Rattle.sweep_share.specs.Shares.{start_in};
-ghost use Rattle.sweeper.specs.Sweepers.{AreStrong, AskNothing, asked_in, left_of};
+ghost use Rattle.sweeper.specs.Sweepers.{AreStrong, AskNothing, asked_in, in_hand, left_of};
 ghost use Rattle.sweeper.specs.Ready.{Ready, Runs};
 
 use crate::Sweeper;
 use crate::fields::{Asked, first_asked, strong_fields};
+use crate::lists::NextPair;
 use directory::Directory;
 use gc_words::Address;
 use std::alloc::AllocError;
-use trace_types::Kind;
 
 impl Sweeper {
     /// The first strong field of an object, from one on, that refers to a collected object. It is read at the object's
@@ -42,6 +42,29 @@ impl Sweeper {
         }
     }
 
+    /// Handles the fields of a forwarded object, whose copy stands at `copy`.
+    fn sweep_object(
+        &mut self,
+        object: Address,
+        copy: Address,
+        directory: &Directory,
+    ) -> Result<(), AllocError>
+        requires same { self.old.places.directory ≡ directory.now }
+        requires ready { Ready (in_hand self.old object copy) }
+        ensures runs { OnOk result (Runs (in_hand self.old object copy) self.new) }
+        ensures inbox { OnOk result (self.new.inbox ≡ self.old.inbox) }
+        ensures less { OnOk result (left_of self.new < left_of (in_hand self.old object copy)) }
+    {
+        let (first, end) = strong_fields(self.share.kind(object), self.share.length(object));
+        let mut from = first;
+        while let Some(asked) = self.next_asked(object, from, end, directory) {
+            let index = asked.index;
+            self.sweep_field(object, copy, asked, directory)?;
+            from = index + 1;
+        }
+        Ok(())
+    }
+
     /// Handles the fields of the object that was forwarded last of those that are not swept, and answers whether there
     /// was one. So an object's fields are handled while its words are still near, and a list is followed to its end.
     fn sweep_next(&mut self, directory: &Directory) -> Result<bool, AllocError>
@@ -56,22 +79,17 @@ impl Sweeper {
             return Ok(false);
         };
         let (object, copy) = unswept;
-        let kind = self.share.kind(object);
-        if let Kind::Pair = kind {
-            let fields = self.share.fields(object);
-            let car = fields[0];
-            let cdr = fields[1];
-            self.sweep_word(object, copy, 0, car, directory)?;
-            self.sweep_word(object, copy, 1, cdr, directory)?;
+        if let Some((car, cdr)) = self.share.pair(object) {
+            let first = NextPair {
+                object,
+                copy,
+                car,
+                cdr,
+            };
+            self.sweep_list(first, directory)?;
             return Ok(true);
         }
-        let (first, end) = strong_fields(kind, self.share.length(object));
-        let mut from = first;
-        while let Some(asked) = self.next_asked(object, from, end, directory) {
-            let index = asked.index;
-            self.sweep_field(object, copy, asked, directory)?;
-            from = index + 1;
-        }
+        self.sweep_object(object, copy, directory)?;
         Ok(true)
     }
 

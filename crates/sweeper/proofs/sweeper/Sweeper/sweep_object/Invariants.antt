@@ -1,14 +1,14 @@
 use Rattle.std.proofs.Common.{◌≡◌, ◌-◌, ◌<◌, ◌≤◌}
-use Rattle.sweeper.specs.Sweepers.{left_of}
+use Rattle.sweeper.specs.Sweepers.{in_hand, left_of}
 use Rattle.sweeper.proofs.WorldSwept.{IsSweptTo}
-use Rattle.sweeper.proofs.sweeper.Sweeper.sweep_next.Given as goal
+use Rattle.sweeper.proofs.sweeper.Sweeper.sweep_object.Given as goal
 
 abbrev pub invariant-loop-asked : goal.invariant-loop-asked
 invariant-loop-asked l = record {
-  done : IsSweptTo l.fn.self l.self l.object l.from;
+  done : IsSweptTo (in_hand l.fn.self l.object l.copy) l.self l.object l.from;
   begun : l.first ≤ l.from;
   order : l.from ≤ l.end;
-  left : left_of l.self < left_of l.fn.self;
+  left : left_of l.self < left_of (in_hand l.fn.self l.object l.copy);
   inbox : l.self.inbox ≡ l.fn.self.inbox;
   directory : l.self.places.directory ≡ l.fn.self.places.directory;
 }

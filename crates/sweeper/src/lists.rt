@@ -1,0 +1,141 @@
+//! A list is swept from pair to pair, without a look at the objects that wait.
+//!
+//! Most objects are pairs, and the cdr of most of them refers to one that is copied next. That one is swept at once: its
+//! words were read to be copied, and it need not be put among the objects that wait only to be taken from there again.
+
+ghost use Rattle.std.specs.Prelude.{◌≡◌, ◌<◌, ◌≤◌, Some, IfOk, IfSome, OnOk, length};
+ghost use Rattle.directory.specs.Directories.{found_at, word_in};
+ghost use Rattle.directory.specs.Nears.{IsNear};
+ghost use Rattle.gc_mail.specs.Recipients.{owner};
+ghost use Rattle.territory.specs.Finishing.{target_of};
+ghost use Rattle.territory.specs.Territories.{words_of};
+ghost use Rattle.sweep_model.specs.Hands.{IsAbsent};
+ghost use Rattle.sweep_share.specs.Shares.{IsPairOf, start_in};
+ghost use Rattle.sweeper.specs.Sweepers.{CanKeep, FieldDone, IsNextPair, asked_in, in_hand, left_of, with_next};
+ghost use Rattle.sweeper.specs.Ready.{Ready, Runs};
+
+use crate::Sweeper;
+use crate::fields::{Asked, referred};
+use directory::{Directory, Near};
+use gc_words::Address;
+use std::alloc::AllocError;
+
+/// A pair that was forwarded and is swept next, with its words, which stayed as they were at its old place.
+#[derive(Clone, Copy)]
+pub(crate) struct NextPair {
+    pub object: Address,
+    pub copy: Address,
+    pub car: u64,
+    pub cdr: u64,
+}
+
+impl Sweeper {
+    /// The words of a collected object, of which `word` is the word in the directory, where it is a pair of its own
+    /// that has no place yet.
+    #[inline(always)]
+    fn fresh_pair(&self, target: Address, word: usize) -> Option<(u64, u64)>
+        requires own { owner self.now.share.sweepers target ≡ self.now.share.number
+            → CanKeep self.now target × (word ≡ word_in self.now.places.directory target) }
+        ensures own { IfSome result (λ words. owner self.now.share.sweepers target ≡ self.now.share.number) }
+        ensures absent { IfSome result (λ words. IsAbsent self.now.places.own target) }
+        ensures pair { IfSome result (λ words. IsPairOf (start_in self.now.share target) words.0 words.1) }
+    {
+        if !self.share.is_own(target) || self.places.place_of(target, word).is_some() {
+            return None;
+        }
+        self.share.pair(target)
+    }
+
+    /// Handles the cdr of a forwarded pair, which asks for a collected object. Where that is a pair which is copied now,
+    /// it is swept next.
+    #[inline(always)]
+    fn sweep_cdr(
+        &mut self,
+        pair: NextPair,
+        asked: Asked,
+        refers: u8,
+        directory: &Directory,
+    ) -> Result<Option<NextPair>, AllocError>
+        requires same { self.old.places.directory ≡ directory.now }
+        requires index { asked.index ≡ 1 }
+        requires target { asked_in self.old.places.directory (start_in self.old.share pair.object) 1 ≡ Some asked.target }
+        requires found { found_at directory.now asked.target ≡ Some asked.found }
+        requires refers { refers ≡ target_of directory.now.targets asked.found.generation }
+        requires generation_in { refers ≤ 8 }
+        requires field { 1 < length (words_of (start_in self.old.share pair.copy)) }
+        requires own { owner self.old.share.sweepers asked.target ≡ self.old.share.number
+            → CanKeep self.old asked.target }
+        ensures done { IfOk result (λ next. FieldDone self.old (with_next self.new next) pair.object pair.copy 1) }
+        ensures next { IfOk result (λ next. IfSome next (IsNextPair self.old)) }
+    {
+        let Some((car, cdr)) = self.fresh_pair(asked.target, asked.found.word) else {
+            self.sweep_field(pair.object, pair.copy, asked, directory)?;
+            return Ok(None);
+        };
+        let place = self.copy_taken(asked.target, asked.found.word, refers)?;
+        self.put(pair.copy, 1, place, refers);
+        Ok(Some(NextPair {
+            object: asked.target,
+            copy: place,
+            car,
+            cdr,
+        }))
+    }
+
+    /// Handles both fields of a forwarded pair, and answers the pair that is swept next, where its cdr leads to one.
+    #[inline(always)]
+    fn sweep_pair(
+        &mut self,
+        pair: NextPair,
+        near: &mut Near,
+        directory: &Directory,
+    ) -> Result<Option<NextPair>, AllocError>
+        requires same { self.old.places.directory ≡ directory.now }
+        requires near { IsNear directory.now near.old }
+        requires ready { Ready (in_hand self.old pair.object pair.copy) }
+        requires words { IsNextPair self.old pair }
+        ensures runs { IfOk result (λ next. Runs (in_hand self.old pair.object pair.copy) (with_next self.new next)) }
+        ensures words { IfOk result (λ next. IfSome next (IsNextPair self.new)) }
+        ensures less { IfOk result (λ next.
+            left_of (with_next self.new next) < left_of (in_hand self.old pair.object pair.copy)) }
+        ensures directory { OnOk result (self.new.places.directory ≡ directory.now) }
+        ensures near { IsNear directory.now near.new }
+        ensures inbox { OnOk result (self.new.inbox ≡ self.old.inbox) }
+    {
+        self.sweep_word(pair.object, pair.copy, 0, pair.car, directory)?;
+        let Some(target) = referred(pair.cdr) else {
+            return Ok(None);
+        };
+        let Some(found) = directory.find_near(near, target) else {
+            return Ok(None);
+        };
+        let asked = Asked {
+            index: 1,
+            target,
+            found,
+        };
+        let next = self.sweep_cdr(pair, asked, near.target, directory)?;
+        Ok(next)
+    }
+
+    /// Sweeps a pair that was forwarded, and each further one to which its cdr leads and which is copied now.
+    pub(crate) fn sweep_list(
+        &mut self,
+        first: NextPair,
+        directory: &Directory,
+    ) -> Result<(), AllocError>
+        requires same { self.old.places.directory ≡ directory.now }
+        requires ready { Ready (in_hand self.old first.object first.copy) }
+        requires words { IsNextPair self.old first }
+        ensures runs { OnOk result (Runs (in_hand self.old first.object first.copy) self.new) }
+        ensures inbox { OnOk result (self.new.inbox ≡ self.old.inbox) }
+        ensures less { OnOk result (left_of self.new < left_of (in_hand self.old first.object first.copy)) }
+    {
+        let mut near = Near::none();
+        let mut next = Some(first);
+        while let Some(pair) = next {
+            next = self.sweep_pair(pair, &mut near, directory)?;
+        }
+        Ok(())
+    }
+}
