@@ -1,5 +1,5 @@
 -- What the sweepers have in the end is what is left of the kept starts and of the registers.
-use Rattle.std.proofs.Common.{◌≡◌, ℕ, ◌<◌, ◌%◌, List, length, get_or, slice_get, IsTrue, Some, sym, ◌∙◌, ap, subst, arith, refl}
+use Rattle.std.proofs.Common.{◌≡◌, ℕ, ◌<◌, ◌%◌, List, length, get_or, option_map, slice_get, IsSome, IsTrue, Option, None, Some, sym, ◌∙◌, ap, subst, arith, refl}
 use Rattle.std.proofs.lemmas.Option.{same_Some, slice_get-get_or}
 use Rattle.gc_words.specs.declared.value.Value.{Value}
 use Rattle.gc_words.specs.declared.value.Value.TheVariants as word
@@ -10,17 +10,19 @@ use Rattle.territory.specs.declared.territory.Targets.{Targets}
 use Rattle.gc_mail.specs.declared.message.Slot.TheVariants as back
 use Rattle.gc_mail.specs.Recipients.{holder_of}
 use Rattle.owned_core.specs.Settings.{Setting, rules_of}
-use Rattle.sweep_model.specs.World.{IsWorld, World, asks}
+use Rattle.sweep_model.specs.World.{IsWorld, World, asks, if_collected, object_in}
 use Rattle.sweep_model.specs.Hands.{Hand}
 use Rattle.sweep_model.proofs.Apt.{holder_in}
+use Rattle.sweep_model.proofs.Names.{collected_some}
 use Rattle.heap_store.specs.Starts.{Starts}
 use Rattle.heap_store.specs.HeapView.{HeapView, starts_of}
 use Rattle.heap_store.specs.Plain.{IsPlain}
 use Rattle.heap_store.specs.Stands.{Stands}
-use Rattle.collect_model.specs.Worlds.{HasEnded, arguments_of, world_of}
+use Rattle.collect_model.specs.Worlds.{HasEnded, KeepsOthers, arguments_of, world_of}
 use Rattle.collect_model.proofs.Left.{AreLeft, AreRegistersLeft, IsLeft, IsLeftOf, WasKept}
 use Rattle.collect_model.proofs.PlainKinds.{all_left}
 use Rattle.collect_model.proofs.Fields.{again}
+use Rattle.collect_model.proofs.References.{object_only, only_object}
 use Rattle.collect_model.proofs.Landing.{Lands, landed, lands_once, lands_reached, reached_lands, same_thread}
 use Rattle.collect_model.proofs.Rereading.{ReadsAs, reads_again, value_there, values_again}
 
@@ -105,30 +107,47 @@ module _ (h : HeapView) (s : State) (targets : Targets) (n : ℕ) (hands : ℕ �
 
   -- ---- registers
 
-  -- what register r holds in the end, its sweeper holds
-  held_by : (r : ℕ) → r < length registers → slice_get registers r ≡ (hands (r % n)).register r
-  held_by r below =
+  -- what a register that held an object holds in the end, its sweeper holds
+  held_by : (r t : ℕ) → object_in (slice_get h.registers r) ≡ Some t → r < length registers
+      → slice_get registers r ≡ (hands (r % n)).register r
+  held_by r t names below =
       let is = slice_get-get_or registers r word.Nil below in
-      is ∙ sym (ended.registers r (get_or registers r word.Nil) is)
+      let some : IsSome (world.registers r) = subst IsSome (ap (option_map word.Object) (sym names)) refl in
+      is ∙ sym (ended.registers r (get_or registers r word.Nil) some is)
 
-  register_again : (r : ℕ) → r < length h.registers → r < length registers
+  -- one that asks for nothing holds what it held
+  same_again : KeepsOthers h.registers registers → (r : ℕ) → r < length registers
+      → asks world (back.Register r) ≡ None → slice_get registers r ≡ slice_get h.registers r
+  same_again others r inside none = at (object_in (slice_get h.registers r)) refl
+    where
+      at : (o : Option ℕ) → object_in (slice_get h.registers r) ≡ o
+          → slice_get registers r ≡ slice_get h.registers r
+      at None is = others r is
+      at (Some t) is =
+          let k : ℕ = holder_of n (back.Register r) in
+          let less : k < n = holder_in n (back.Register r) is_world.some in
+          held_by r t is inside
+          ∙ ((ended.tied k less).registers r (sym (ended.numbers k less)) none
+          ∙ only_object (slice_get h.registers r) t is)
+
+  register_again : KeepsOthers h.registers registers → (r : ℕ) → r < length h.registers → r < length registers
       → ReadsAs (starts_of h) g (slice_get h.registers r) (slice_get registers r)
-  register_again r below inside =
-      let k : ℕ = holder_of n (back.Register r) in
-      let less : k < n = holder_in n (back.Register r) is_world.some in
+  register_again others r below inside =
+      let only = object_only (slice_get h.registers r) in
       reads_again world hands g registers is_world ended
       (slice_get h.registers r) (slice_get registers r) (asks world (back.Register r))
       (value_there (starts_of h) h.registers stands.registers.there r below)
-      refl
-      (λ none. held_by r inside ∙ (ended.tied k less).registers r (sym (ended.numbers k less)) none)
+      (ap (if_collected world) (sym only))
+      (same_again others r inside)
       (λ t wants.
       let d = ended.done.registers r t wants in
-      (d.0, d.1, held_by r inside ∙ d.2))
+      let names = sym only ∙ (collected_some world (object_in (world.registers r)) t wants).0 in
+      (d.0, d.1, held_by r t names inside ∙ d.2))
 
   -- and all that registers hold
-  pub registers_left : length registers ≡ length h.registers
+  pub registers_left : KeepsOthers h.registers registers → length registers ≡ length h.registers
       → AreRegistersLeft (starts_of h) g h.registers registers
-  registers_left count =
+  registers_left others count =
       let r = values_again (starts_of h) g h.registers registers count
-      (λ i below. register_again i below (omega arith)) in
+      (λ i below. register_again others i below (omega arith)) in
       record { there = r.0; reads = r.1 }

@@ -1,5 +1,5 @@
 -- Each object of a plain heap that is reached over addresses is kept by births.
-use Rattle.std.proofs.Common.{◌≡◌, ℕ, true, List, [], ◌++◌, map, filter, nat_lt, Contains, IsTrue, Option, None, Some, refl, sym, ◌∙◌, ap, subst, inl, inr}
+use Rattle.std.proofs.Common.{◌≡◌, ℕ, true, List, [], ◌++◌, map, filter, nat_lt, Contains, slice_get, IsTrue, Option, None, Some, refl, sym, ◌∙◌, ap, subst, inl, inr}
 use Rattle.std.proofs.lemmas.List.Elements.{All-contains_itself, All-weaker, Contains-append_cases}
 use Rattle.std.proofs.lemmas.Option.{none-some}
 use Rattle.gc_words.specs.declared.value.Value.TheVariants as word
@@ -29,7 +29,7 @@ use Rattle.heap_store.specs.Plain.{IsPlain}
 use Rattle.heap_store.specs.Stands.{Stands}
 use Rattle.collect_model.specs.Worlds.{world_of}
 use Rattle.collect_model.proofs.PlainKinds.{all_strong}
-use Rattle.collect_model.proofs.References.{field_there, place_is}
+use Rattle.collect_model.proofs.References.{field_there, object_only, place_is}
 use Rattle.collect_model.proofs.Graph.{old_above, start_contained, start_found}
 use Rattle.collect_model.proofs.Members.{contains_has, has_mapped, has_one, object_there}
 
@@ -81,7 +81,7 @@ module _ (h : HeapView) (s : State) (targets : Targets) (n : ℕ) (w : Setting) 
   register_kept : (r t : ℕ) → asks world (back.Register r) ≡ Some t → IsKept t
   register_kept r t e =
       let names = (collected_some world (object_in (world.registers r)) t e).0 in
-      let held = place_is (world.registers r) t names in
+      let held = place_is (slice_get h.registers r) t (sym (object_only (slice_get h.registers r)) ∙ names) in
       registers_kept (birth_of (f t))
       (subst (λ vs. IsTrue (has (objects_in vs) (birth_of (f t)))) (sym stands.registers.reads)
       (object_there (read f) h.registers r (word.Object t) (birth_of (f t)) held (has_one (birth_of (f t)))))

@@ -21,7 +21,7 @@ use Rattle.heap_store.specs.Starts.{Starts, birth_of, fields_of, read, IsThere}
 use Rattle.heap_store.specs.HeapView.{HeapView, starts_of}
 use Rattle.heap_store.specs.Plain.{IsPlain}
 use Rattle.heap_store.specs.Stands.{Stands}
-use Rattle.collect_model.specs.Worlds.{world_of}
+use Rattle.collect_model.specs.Worlds.{objects_only, world_of}
 use Rattle.collect_model.proofs.Accessible.{kept_accessible}
 use Rattle.collect_model.proofs.RulesReach.{older_reached, slot_reached}
 use Rattle.collect_model.proofs.PlainKinds.{all_strong, no_ephemeron}
@@ -98,7 +98,7 @@ module _ (h : HeapView) (s : State) (targets : Targets) (n : ℕ) (w : Setting) 
       let v = read_from f r.1 y r.3 in
       let held = each_at (IsThere f) h.registers r.0 r.1 stands.registers.there r.2 in
       let asked : asks world (back.Register r.0) ≡ if_collected world (Some v.0) =
-      ap (λ z. if_collected world (object_in z)) (r.2 ∙ ap Some v.1) in
+      ap (λ z. if_collected world (object_in (objects_only z))) (r.2 ∙ ap Some v.1) in
       let there = place_there f (Some r.1) v.0 held (ap Some v.1) in
       birth_reached v.0 y (slot_reached world w setting (back.Register r.0) v.0 there asked refl) v.2
 

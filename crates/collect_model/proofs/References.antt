@@ -1,5 +1,5 @@
 -- References of a plain start: which of its fields refer to an object, and to which.
-use Rattle.std.proofs.Common.{◌≡◌, ℕ, ◌==◌, pos, true, false, List, map, get_or, IsTrue, IsSome, Option, Some, None, refl, sym, ◌∙◌, ap, subst, inl, inr}
+use Rattle.std.proofs.Common.{◌≡◌, ℕ, ◌==◌, pos, true, false, List, map, get_or, option_map, IsTrue, IsSome, Option, Some, None, refl, sym, ◌∙◌, ap, subst, inl, inr}
 use Rattle.std.specs.List.{AllByRecursion}
 use Rattle.std.proofs.lemmas.Bool.{eqb-true, false≢true, or_cases}
 use Rattle.std.proofs.lemmas.Option.{none-some, same_Some, slice_get-get_or, get_or_from_slice_get}
@@ -15,6 +15,7 @@ use Rattle.sweep_model.proofs.Names.{word_in}
 use Rattle.heap_store.specs.Starts.{Starts, has_values, birth_of, bytes_of, read, read_option, read_word, fields_of, IsThereOption, IsWordThere}
 use Rattle.heap_store.specs.Plain.{is_plain}
 use Rattle.heap_store.proofs.Kept.{object_some}
+use Rattle.collect_model.specs.Worlds.{objects_only}
 use Rattle.collect_model.proofs.Members.{each_at, has_one, object_from, object_there}
 use Rattle.collect_model.proofs.PlainKinds.{fields_of-bytes, fields_of-words, fields_or_bytes, strong_value_is}
 
@@ -29,6 +30,18 @@ place_is (Some word.True) q e = absurd (none-some q e)
 place_is (Some word.False) q e = absurd (none-some q e)
 place_is (Some word.Bwp) q e = absurd (none-some q e)
 place_is None q e = absurd (none-some q e)
+
+-- where only objects count, the object stays
+pub object_only : (o : Option Value) → object_in (objects_only o) ≡ object_in o
+object_only o = at (object_in o)
+  where
+    at : (p : Option ℕ) → object_in (option_map word.Object p) ≡ p
+    at None = refl
+    at (Some a) = refl
+
+-- and so does a value that is one
+pub only_object : (o : Option Value) (q : ℕ) → object_in o ≡ Some q → objects_only o ≡ o
+only_object o q e = ap (option_map word.Object) e ∙ sym (place_is o q e)
 
 module _ (f : Starts) where
   -- a value that reads as an object is one

@@ -15,7 +15,7 @@ use Rattle.sweep_model.specs.Hands.{Hand}
 use Rattle.heap_store.specs.HeapView.{HeapView, starts_in, starts_of}
 use Rattle.heap_store.specs.Plain.{IsPlain}
 use Rattle.heap_store.specs.Stands.{AreSettled, Stands}
-use Rattle.collect_model.specs.Worlds.{HasEnded, arguments_of, world_of}
+use Rattle.collect_model.specs.Worlds.{HasEnded, KeepsOthers, arguments_of, world_of}
 use Rattle.collect_model.specs.Counts.{copied_by}
 
 -- what is kept by births is what the rules reach over addresses
@@ -34,7 +34,7 @@ CollectedStands =
     → Stands h s → IsPlain h → IsWorld (world_of h targets n)
     → IsTrue (are_allowed s.version s.oldest (arguments_of targets)) → AreSettled territories
     → HasEnded (world_of h targets n) hands (starts_in territories) registers
-    → length registers ≡ length h.registers
+    → KeepsOthers h.registers registers → length registers ≡ length h.registers
     → Stands (record h { territories = territories; registers = registers })
     (collect s (arguments_of targets))
     × IsPlain (record h { territories = territories; registers = registers })

@@ -1,6 +1,7 @@
 -- A heap as a world: where its collection begins, and where it has ended.
-use Rattle.std.specs.Prelude.{◌≡◌, ℕ, ◌<◌, false, List, slice_get, Some, IsSome, Contains, ◌⊎◌}
+use Rattle.std.specs.Prelude.{◌≡◌, ℕ, ◌<◌, false, List, option_map, slice_get, Option, None, Some, IsSome, Contains, ◌⊎◌}
 use Rattle.gc_words.specs.declared.value.Value.{Value}
+use Rattle.gc_words.specs.declared.value.Value.TheVariants.{Object}
 use Rattle.trace_types.specs.Collections.{Arguments}
 use Rattle.segment.specs.Segments.{Start}
 use Rattle.territory.specs.declared.territory.Targets.{Targets}
@@ -9,18 +10,22 @@ use Rattle.gc_mail.specs.declared.message.Slot.TheVariants as back
 use Rattle.gc_mail.specs.Recipients.{holder_of, owner}
 use Rattle.owned_core.specs.Settings.{Setting}
 use Rattle.owned_core.specs.Owned.{State}
-use Rattle.sweep_model.specs.World.{World, is_collected}
+use Rattle.sweep_model.specs.World.{World, is_collected, object_in}
 use Rattle.sweep_model.specs.Settings.{IsSettingOf}
 use Rattle.sweep_model.specs.Hands.{Hand, Tied}
 use Rattle.sweep_model.specs.Wholes.{AreDone}
 use Rattle.heap_store.specs.Starts.{Starts}
 use Rattle.heap_store.specs.HeapView.{HeapView, starts_in}
 
--- what starts in territories and what registers hold, as n sweepers begin
+-- what a register holds, where that is an object
+abbrev pub objects_only : Option Value → Option Value
+objects_only held = option_map Object (object_in held)
+
+-- what starts in territories and which objects registers hold, as n sweepers begin
 abbrev pub world_in : List TerritoryView → List Value → Targets → ℕ → World
 world_in territories registers targets n = record {
   image = starts_in territories;
-  registers = λ r. slice_get registers r;
+  registers = λ r. objects_only (slice_get registers r);
   sweepers = n;
   targets = targets;
 }
@@ -33,7 +38,7 @@ abbrev pub arguments_of : Targets → Arguments
 arguments_of targets = record { cg = targets.cg; least = targets.min; greatest = targets.max }
 
 -- The sweepers have come to their end. What starts afterwards, g, is what they have: older objects where they
--- were, and copies at their places. The registers hold what the sweepers' registers hold.
+-- were, and copies at their places. The registers that held objects hold what the sweepers' registers hold.
 pub record HasEnded (world : World) (hands : ℕ → Hand) (g : Starts) (held : List Value) : Type 0 where
   pub setting : Setting
   pub is_setting : IsSettingOf world setting
@@ -48,5 +53,9 @@ pub record HasEnded (world : World) (hands : ℕ → Hand) (g : Starts) (held : 
   pub only : (p : ℕ) (y : Start) → g p ≡ Some y
       → (IsSome (world.image p) × (is_collected world p ≡ false))
       ⊎ ((x : ℕ) × Contains (hands (owner world.sweepers x)).own (x, p))
-  pub registers : (r : ℕ) (v : Value) → slice_get held r ≡ Some v
+  pub registers : (r : ℕ) (v : Value) → IsSome (world.registers r) → slice_get held r ≡ Some v
       → (hands (holder_of world.sweepers (back.Register r))).register r ≡ Some v
+
+-- the registers that held no objects are as they were
+abbrev pub KeepsOthers : List Value → List Value → Type 0
+KeepsOthers before after = (r : ℕ) → object_in (slice_get before r) ≡ None → slice_get after r ≡ slice_get before r

@@ -10,15 +10,14 @@ use Rattle.directory.specs.Tables.{aside_at, shown}
 use Rattle.heap_store.specs.HeapView.{starts_in}
 use Rattle.sweep_model.specs.World.{is_young}
 use Rattle.sweep_share.specs.Shares.{AreShareOf}
-use Rattle.sweep_share.specs.Registers.{AreRegistersOf}
 use Rattle.sweeper.specs.Starting.{IsBeginning}
 use Rattle.collect_model.specs.Worlds.{world_in}
 use Rattle.collector.specs.Begun.{AreCollectable, HaveBegun}
 use Rattle.collector.specs.Dealt.{AreRegistersDealtTo, IsDealtTo}
 use Rattle.collector.proofs.BegunTerritories.{begun_from}
-use Rattle.collector.proofs.BegunDealt.{dealt_registers_of, dealt_share_of}
+use Rattle.collector.proofs.BegunDealt.{dealt_share_of}
 use Rattle.collector.proofs.BegunAside.{LiesIn, lies_in}
-use Rattle.collector.proofs.BegunShare.{share_aside, share_held, share_sound, share_starts}
+use Rattle.collector.proofs.BegunShare.{share_aside, share_sound, share_starts}
 use Rattle.collector.proofs.BegunDirectory.{can_start, told_collected, told_older}
 
 module _ (old new : List TerritoryView) (registers : List Value) (targets : Targets) (n : ℕ)
@@ -40,11 +39,6 @@ module _ (old new : List TerritoryView) (registers : List Value) (targets : Targ
   -- what is dealt to a sweeper is a share
   pub dealt_share : (k : ℕ) (own : List TerritoryView) → k < n → IsDealtTo n k new own → AreShareOf k n own
   dealt_share k own number_in dealt = dealt_share_of n k new own ready_threads number_in most dealt
-
-  -- and so are the registers
-  pub dealt_registers : (k : ℕ) (own : List (ℕ × Value)) → k < n → AreRegistersDealtTo n k registers own
-      → AreRegistersOf k n own
-  dealt_registers k own number_in dealt = dealt_registers_of n k registers own number_in dealt
 
   -- ---- the beginning
 
@@ -68,7 +62,7 @@ module _ (old new : List TerritoryView) (registers : List Value) (targets : Targ
     targets = sym its_targets;
     starts = λ a mine.
         share_starts old new own targets m k a begun dealt (ap (λ w. thread_of a % w) count ∙ mine);
-    held = λ r mine. share_held registers own_registers m k r registers_dealt (ap (λ w. r % w) count ∙ mine);
+    held = λ r mine. registers_dealt.held r (ap (λ w. r % w) count ∙ mine);
     can_start = λ a x here young. can_start d new targets.cg a x (lying a x here) tells (young_by a x here ∙ young);
     generations = λ a x here young.
         let told = told_collected d new targets.cg a x (lying a x here) tells (young_by a x here ∙ young) in

@@ -1,21 +1,19 @@
 -- A sweeper's share of the territories that have begun has what started in the heap, and sound cards.
-use Rattle.std.proofs.Common.{◌≡◌, ℕ, ◌+◌, ◌*◌, ◌/◌, ◌%◌, nat_le, List, get_or, slice_get, option_map, Option, None, Some, refl, sym, ap, ◌∙◌, eq-eqb, cond, unwrap_or}
+use Rattle.std.proofs.Common.{◌≡◌, ℕ, ◌+◌, ◌*◌, ◌/◌, ◌%◌, nat_le, List, get_or, slice_get, option_map, Option, None, Some, refl, sym, ap, ◌∙◌, unwrap_or}
 use Rattle.std.proofs.lemmas.Option.{get_or_from_slice_get, unwrap_or-slice_get}
 use Rattle.std.specs.FinMap.{get, get-empty}
 use Rattle.std.specs.Ordering.{nat_cmp}
 use Rattle.gc_words.specs.Layout.{segment_of, thread_of}
-use Rattle.gc_words.specs.declared.value.Value.{Value}
 use Rattle.segment.specs.Segments.{Start}
 use Rattle.territory.specs.declared.territory.Targets.{Targets}
 use Rattle.territory.specs.Territories.{TerritoryView, no_territory, segment_at}
 use Rattle.heap_store.specs.HeapView.{starts_in, start_in as start_of}
 use Rattle.heap_store.specs.Changes.{HaveSoundCards, generation_at}
 use Rattle.sweep_share.specs.Shares.{AreSound, ShareView, is_aside, is_from_one, start_in}
-use Rattle.sweep_share.specs.Registers.{RegistersView, held_in, register_in}
 use Rattle.sweep_share.proofs.Places.{own_start}
 use Rattle.sweeper.specs.Starting.{generation_of}
 use Rattle.collector.specs.Begun.{HaveBegun}
-use Rattle.collector.specs.Dealt.{AreRegistersDealtTo, IsDealtTo, numbered}
+use Rattle.collector.specs.Dealt.{IsDealtTo}
 use Rattle.collector.proofs.BegunTerritories.{begun_from, same_starts}
 use Rattle.collector.proofs.BegunDealt.{number_is, own_there}
 use Rattle.collector.proofs.BegunAside.{LiesIn}
@@ -73,22 +71,3 @@ share_sound old new own targets n k begun sound dealt i within a index b h x her
     (own_there own i (no_territory 0) (slice_get new (k + i * n)) (dealt i) within) in
     t.2.sound (generation_at (starts_in old)) (sound (k + i * n) t.0 t.1) a index b h x here refers
     (same_generation (starts_in old b) ∙ told) lower
-
--- ---- registers
-
--- the registers of sweeper k of n
-abbrev pub registers_among : ℕ → ℕ → List (ℕ × Value) → RegistersView
-registers_among k n own = record { number = k; sweepers = n; items = own }
-
-held_numbered : (r : ℕ) (o : Option Value) → held_in (numbered r o) ≡ o
-held_numbered r None = refl
-held_numbered r (Some v) = refl
-
--- an own register holds what it held
-pub share_held : (registers : List Value) (own : List (ℕ × Value)) (n k r : ℕ) → AreRegistersDealtTo n k registers own
-    → r % n ≡ k → register_in (registers_among k n own) r ≡ slice_get registers r
-share_held registers own n k r dealt mine =
-    ap (λ b. cond b (held_in (slice_get own (r / n))) None) (eq-eqb (r % n) k mine)
-    ∙ (ap held_in (dealt (r / n))
-    ∙ (held_numbered (k + r / n * n) (slice_get registers (k + r / n * n))
-    ∙ ap (slice_get registers) (number_is n k r mine)))

@@ -14,7 +14,8 @@ use Rattle.sweep_model.specs.World.{IsWorld, is_young}
 use Rattle.sweeper.specs.Ready.{IsOrdered}
 use Rattle.sweep_model.specs.Wholes.{IsListed}
 use Rattle.sweep_model.proofs.Tallying.{entry_there}
-use Rattle.collect_model.specs.Worlds.{world_in}
+use Rattle.collect_model.specs.Worlds.{objects_only, world_in}
+use Rattle.collect_model.proofs.References.{object_only}
 use Rattle.collector.specs.Begun.{AreCollectable, HaveBegun}
 use Rattle.collector.proofs.BegunTerritories.{found}
 
@@ -67,7 +68,7 @@ module _ (old new : List TerritoryView) (registers : List Value) (targets : Targ
         let f = found old new targets a x begun here in
         f.begun.shaped a x f.starts;
     fields = ready.fields;
-    held = ready.held;
+    held = λ r b names. ready.held r b (sym (object_only (slice_get registers r)) ∙ names);
   }
 
   -- what is not collected is older than all that goes anywhere
@@ -82,5 +83,5 @@ module _ (old new : List TerritoryView) (registers : List Value) (targets : Targ
     starts = addresses_of old;
     all = λ a x here. address_there old (thread_of a) a x here;
     registers = length registers;
-    none = λ r past. slice_get_past registers r past;
+    none = λ r past. ap objects_only (slice_get_past registers r past);
   }

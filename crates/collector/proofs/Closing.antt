@@ -1,47 +1,18 @@
 -- Sweepers are ended one by one: no register of one is of another, so what was put stays.
-use Rattle.std.proofs.Common.{◌≡◌, ◌≢◌, ℕ, ◌+◌, ◌*◌, ◌/◌, ◌%◌, ◌<◌, ◌==◌, cond, List, [], ◌∷◌, ◌++◌, length, Option, None, Some, refl, sym, ◌∙◌, ap, subst, inl, inr, arith}
+use Rattle.std.proofs.Common.{◌≡◌, ◌≢◌, ℕ, ◌+◌, ◌%◌, ◌<◌, ◌≤◌, List, [], ◌∷◌, ◌++◌, length, None, Some, refl, sym, ◌∙◌, ap, subst, inl, inr, arith}
 use Rattle.std.specs.List.{slice_get}
-use Rattle.std.proofs.lemmas.Bool.{cases_Bool, cases_lt, eqb-true}
+use Rattle.std.proofs.lemmas.Bool.{cases_lt}
 use Rattle.std.proofs.lemmas.List.{get_or_append_left, get_or_default, get_or_push, length_push}
-use Rattle.std.proofs.lemmas.Nat.{div-add-mod', mod-mul-add}
-use Rattle.std.proofs.lemmas.Option.{get_or_from_slice_get, none-some, same_Some, slice_get_within}
+use Rattle.std.proofs.lemmas.Option.{none-some}
 use Rattle.gc_words.specs.declared.value.Value.{Value}
-use Rattle.gc_words.specs.declared.value.Value.TheVariants.{Nil}
 use Rattle.territory.specs.Territories.{TerritoryView}
 use Rattle.sweep_share.specs.Shares.{AreFinished, IsShare}
-use Rattle.sweep_share.specs.Registers.{AreRegistersOf, RegistersView, held_in, item_at, register_in}
+use Rattle.sweep_share.specs.Registers.{AreRegistersOf, item_at, register_in}
+use Rattle.sweep_share.proofs.Numbers.{found_at, holds}
 use Rattle.sweeper.specs.Sweepers.{SweeperView}
 use Rattle.sweep_rounds.specs.Turns.{sweeper_at}
 use Rattle.collector.specs.Dealt.{own_at}
 use Rattle.collector.specs.Swept.{ArePut}
-
--- ---- a register of a sweeper
-
--- where a register stands that is one of these
-record IsAmong (s : RegistersView) (r : ℕ) (v : Value) : Type 0 where
-  rest : r % s.sweepers ≡ s.number
-  within : r / s.sweepers < length s.items
-  holds : (item_at s.items (r / s.sweepers)).1 ≡ v
-
-among_at : (s : RegistersView) (r : ℕ) (v : Value) (o : Option (ℕ × Value)) → r % s.sweepers ≡ s.number
-    → slice_get s.items (r / s.sweepers) ≡ o → held_in o ≡ Some v → IsAmong s r v
-among_at s r v None rest at is = absurd (none-some v is)
-among_at s r v (Some item) rest at is = record {
-  rest = rest;
-  within = slice_get_within s.items (r / s.sweepers) item at;
-  holds = ap (λ (i : ℕ × Value). i.1) (get_or_from_slice_get s.items (r / s.sweepers) item (0, Nil) at)
-      ∙ same_Some item.1 v is;
-}
-
-among : (s : RegistersView) (r : ℕ) (v : Value) → register_in s r ≡ Some v → IsAmong s r v
-among s r v is = elim (cases_Bool (r % s.sweepers == s.number)) [
-  | inl own ↦
-      among_at s r v (slice_get s.items (r / s.sweepers)) (eqb-true (r % s.sweepers) s.number own) refl
-      (sym (ap (λ b. cond b (held_in (slice_get s.items (r / s.sweepers))) None) own) ∙ is)
-  | inr other ↦
-      absurd (none-some v
-      (sym (ap (λ b. cond b (held_in (slice_get s.items (r / s.sweepers))) None) other) ∙ is))
-]
 
 -- ---- ended sweepers
 
@@ -60,8 +31,11 @@ pub record AreEndedSoFar (sweepers : List SweeperView) (owns : List (List Territ
       → AreFinished (sweeper_at sweepers e k).share.territories (own_at owns k)
   pub shares : (k : ℕ) (e : SweeperView) → k < n → IsShare (sweeper_at sweepers e k).share
   pub registers_count : length after ≡ length before
-  pub registers : (k r : ℕ) (e : SweeperView) (v : Value) → k < n → r < length before
+  pub registers : (k r : ℕ) (e : SweeperView) (v : Value) → k < n → r % length sweepers ≡ k
       → register_in (sweeper_at sweepers e k).registers r ≡ Some v → slice_get after r ≡ Some v
+  pub others : (k r : ℕ) (e : SweeperView) → k < n → r % length sweepers ≡ k
+      → register_in (sweeper_at sweepers e k).registers r ≡ None → slice_get after r ≡ slice_get before r
+  pub rest : (r : ℕ) → n ≤ r % length sweepers → slice_get after r ≡ slice_get before r
 
 module _ (sweepers : List SweeperView) (owns : List (List TerritoryView)) (own : List TerritoryView)
     (before now new : List Value) (n : ℕ) (v : SweeperView) (numbered : AreNumbered sweepers)
@@ -76,30 +50,28 @@ module _ (sweepers : List SweeperView) (owns : List (List TerritoryView)) (own :
   -- its registers hold what they held
   its : (r : ℕ) (u : Value) → register_in v.registers r ≡ Some u → slice_get new r ≡ Some u
   its r u holds =
-      let a : IsAmong v.registers r u = among v.registers r u holds in
-      let i : ℕ = r / v.registers.sweepers in
-      let number : (item_at v.registers.items i).0 ≡ r =
-      of.numbers i a.within ∙ omega (arith, a.rest, div-add-mod' r v.registers.sweepers) in
-      sym (ap (slice_get new) number) ∙ (put.put i a.within ∙ ap Some a.holds)
+      let f = found_at v.registers.items r u holds in
+      sym (ap (slice_get new) f.1.number) ∙ (put.put f.0 f.1.within ∙ ap Some f.1.value)
 
-  -- a register of an earlier one is none of its own
-  apart : (k r i : ℕ) (e : SweeperView) (u : Value) → k < n
-      → register_in (sweeper_at sweepers e k).registers r ≡ Some u → i < length v.registers.items
-      → (item_at v.registers.items i).0 ≢ r
-  apart k r i e u low holds within same =
-      let s : RegistersView = (sweeper_at sweepers e k).registers in
-      let a : IsAmong s r u = among s r u holds in
-      let old = numbered k e (omega (arith, low, inside)) in
-      let new = numbered n v inside in
-      let m : ℕ = length sweepers in
-      let mine : v.registers.number ≡ n = ap (λ (w : SweeperView). w.registers.number) is ∙ new.0 in
-      let count : v.registers.sweepers ≡ m = ap (λ (w : SweeperView). w.registers.sweepers) is ∙ new.1 in
-      let number : v.registers.number + i * v.registers.sweepers ≡ r = sym (of.numbers i within) ∙ same in
-      let from : n + i * m ≡ r =
-      sym (ap (λ q. q + i * v.registers.sweepers) mine ∙ ap (λ q. n + i * q) count) ∙ number in
-      let first : r % m ≡ n = ap (λ q. q % m) (omega (arith, from)) ∙ mod-mul-add i m n inside in
-      let second : r % m ≡ k = sym (ap (λ q. r % q) old.1) ∙ (a.rest ∙ old.0) in
-      omega (arith, first, second, low)
+  -- their numbers are its own
+  its_number : (i : ℕ) → i < length v.registers.items → (item_at v.registers.items i).0 % length sweepers ≡ n
+  its_number i within =
+      let here = numbered n v inside in
+      let mine : v.registers.number ≡ n = ap (λ (w : SweeperView). w.registers.number) is ∙ here.0 in
+      let count : v.registers.sweepers ≡ length sweepers =
+      ap (λ (w : SweeperView). w.registers.sweepers) is ∙ here.1 in
+      ap (λ m. (item_at v.registers.items i).0 % m) (sym count) ∙ (of.numbers i within ∙ mine)
+
+  -- so a register of another sweeper is as it was
+  other : (r : ℕ) → r % length sweepers ≢ n → slice_get new r ≡ slice_get now r
+  other r ne = put.others r (λ i within same. ne (ap (λ m. m % length sweepers) (sym same) ∙ its_number i within))
+
+  -- and one that it does not have
+  missing : (r : ℕ) → register_in v.registers r ≡ None → slice_get new r ≡ slice_get now r
+  missing r none = put.others r (λ i within same.
+      none-some (item_at v.registers.items i).1
+      (sym none ∙ subst (λ q. register_in v.registers q ≡ Some (item_at v.registers.items i).1) same
+      (holds v.registers i (item_at v.registers.items i) of within refl)))
 
   -- with it they are one more
   pub ended_more : AreFinished v.share.territories own → IsShare v.share
@@ -126,14 +98,19 @@ module _ (sweepers : List SweeperView) (owns : List (List TerritoryView)) (own :
           (subst (λ (w : SweeperView). IsShare w.share) (sym (next e)) share)
     ];
     registers_count = put.count ∙ so.registers_count;
-    registers = λ k r e u below in_before holds. elim (cases_lt k n) [
-      | inl low ↦
-          put.others r (λ i within. apart k r i e u low holds within)
-          ∙ so.registers k r e u low in_before holds
-      | inr far ↦
-          let same : k ≡ n = omega (arith, below, far) in
-          its r u (sym (ap (λ (w : SweeperView). register_in w.registers r)
-          (ap (sweeper_at sweepers e) same ∙ next e))
-          ∙ holds)
+    registers = λ k r e u below mine holds. elim (cases_lt k n) [
+      | inl low ↦ other r (λ e. omega (arith, e, mine, low)) ∙ so.registers k r e u low mine holds
+      | inr far ↦ its r u (sym (here k r e (omega (arith, below, far))) ∙ holds)
     ];
+    others = λ k r e below mine none. elim (cases_lt k n) [
+      | inl low ↦ other r (λ e. omega (arith, e, mine, low)) ∙ so.others k r e low mine none
+      | inr far ↦
+          missing r (sym (here k r e (omega (arith, below, far))) ∙ none) ∙ so.rest r (omega (arith, mine, far))
+    ];
+    rest = λ r past. other r (λ e. omega (arith, e, past)) ∙ so.rest r (omega (arith, past));
   }
+    where
+      here : (k r : ℕ) (e : SweeperView) → k ≡ n
+          → register_in (sweeper_at sweepers e k).registers r ≡ register_in v.registers r
+      here k r e same =
+          ap (λ (w : SweeperView). register_in w.registers r) (ap (sweeper_at sweepers e) same ∙ next e)

@@ -44,7 +44,7 @@ module _ (h : HeapView) (targets : Targets) (n : ℕ) (territories : List Territ
   both : (s : State) → Stands h s → Stands left (collect s (arguments_of targets)) × IsPlain left
   both s stands =
       collected_stands h s targets n swept.hands territories registers stands valid.plain swept.is_world
-      (allowed_in s stands) swept.settled swept.ended swept.registers_count
+      (allowed_in s stands) swept.settled swept.ended swept.others swept.registers_count
 
   -- the parts that are left stand for the collected state
   pub parts_stand : (s : State) → Stands h s → Stands left (collect s (arguments_of targets))

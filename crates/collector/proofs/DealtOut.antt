@@ -1,13 +1,12 @@
--- Territories and registers are dealt out one by one: one more goes to the sweeper whose turn it is.
+-- Territories are dealt out one by one: one more goes to the sweeper whose turn it is.
 use Rattle.std.proofs.Common.{◌≡◌, ◌≢◌, ℕ, zero, suc, ◌+◌, ◌*◌, ◌/◌, ◌%◌, ◌<◌, ◌≤◌, List, [], ◌∷◌, ◌++◌, length, set, replicate, slice_get, None, Some, refl, sym, ◌∙◌, ap, subst, inl, inr, arith, get_or-set_same, get_or-set_other}
-use Rattle.std.proofs.Math.Nat.{mod-add-div', mul-le-mul_right}
+use Rattle.std.proofs.Math.Nat.{mod-add-div'}
 use Rattle.std.proofs.lemmas.Bool.{cases_eq, cases_lt}
-use Rattle.std.proofs.lemmas.List.{get_or-replicate, length-replicate, length-set, length_push}
+use Rattle.std.proofs.lemmas.List.{get_or-replicate, length-replicate, length-set}
 use Rattle.std.proofs.lemmas.Nat.{mod-mul-add, row_fits, same_from_place}
 use Rattle.std.proofs.lemmas.Option.{none-some, slice_get_past}
-use Rattle.gc_words.specs.declared.value.Value.{Value}
 use Rattle.territory.specs.Territories.{TerritoryView}
-use Rattle.collector.specs.Dealt.{AreDealt, AreRegistersDealtTo, IsDealtTo, numbered, own_at}
+use Rattle.collector.specs.Dealt.{AreDealt, IsDealtTo, own_at}
 
 -- ---- one more at the end of a list
 
@@ -100,36 +99,3 @@ dealt_more n all owns t some dealt = record {
 
     more : List TerritoryView
     more = own_at owns turn ++ t ∷ []
-
--- ---- registers
-
--- The first registers of a sweeper, and which one is next.
-pub record AreFirstDealt (n k : ℕ) (all : List Value) (next : ℕ) (own : List (ℕ × Value)) : Type 0 where
-  pub place : next ≡ k + length own * n
-  pub each : (i : ℕ) → i < length own → slice_get own i ≡ numbered (k + i * n) (slice_get all (k + i * n))
-
-pub registers_more : (n k : ℕ) (all : List Value) (next : ℕ) (own : List (ℕ × Value)) (v : Value)
-    → slice_get all next ≡ Some v → AreFirstDealt n k all next own
-    → AreFirstDealt n k all (next + n) (own ++ (next, v) ∷ [])
-registers_more n k all next own v here first = record {
-  place = subst (λ l. next + n ≡ k + l * n) (sym count) (omega (arith, first.place));
-  each = λ i low. elim (cases_eq i (length own)) [
-    | inl e ↦
-        let place : next ≡ k + i * n = first.place ∙ ap (λ j. k + j * n) (sym e) in
-        ap (slice_get (own ++ (next, v) ∷ [])) e ∙ (slice_get_push own (next, v)
-        ∙ (ap (numbered next) (sym here) ∙ ap (λ r. numbered r (slice_get all r)) place))
-    | inr ne ↦ slice_get_push_other own (next, v) i ne ∙ first.each i (omega (arith, low, ne, count))
-  ];
-}
-  where
-    count : length (own ++ (next, v) ∷ []) ≡ length own + 1
-    count = length_push own (next, v)
-
-pub registers_all : (n k : ℕ) (all : List Value) (next : ℕ) (own : List (ℕ × Value)) → length all ≤ next
-    → AreFirstDealt n k all next own → AreRegistersDealtTo n k all own
-registers_all n k all next own done first i = elim (cases_lt i (length own)) [
-  | inl low ↦ first.each i low
-  | inr past ↦
-      let over : length all ≤ k + i * n = omega (arith, done, first.place, mul-le-mul_right n past) in
-      slice_get_past own i past ∙ sym (ap (numbered (k + i * n)) (slice_get_past all (k + i * n) over))
-]

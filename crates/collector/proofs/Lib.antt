@@ -19,5 +19,6 @@ pub mod GatheredCards
 pub mod Swept
 pub mod Course
 pub mod DealtOut
+pub mod DealtRegisters
 pub mod Taking
 pub mod Closing

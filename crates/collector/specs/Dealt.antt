@@ -1,7 +1,11 @@
 -- How territories and registers are dealt out to n sweepers, and gathered again.
-use Rattle.std.specs.Prelude.{◌≡◌, ℕ, ◌+◌, ◌*◌, ◌/◌, ◌%◌, ◌<◌, List, [], length, option_map, slice_get, slice_index_or, Option}
+use Rattle.std.specs.Prelude.{◌≡◌, ℕ, ◌+◌, ◌*◌, ◌/◌, ◌%◌, ◌<◌, List, [], length, slice_get, slice_index_or}
+use Rattle.std.specs.FinMap.{find}
+use Rattle.std.specs.Ordering.{nat_cmp}
 use Rattle.gc_words.specs.declared.value.Value.{Value}
 use Rattle.territory.specs.Territories.{TerritoryView}
+use Rattle.sweep_share.specs.Registers.{AreRegistersOf}
+use Rattle.collect_model.specs.Worlds.{objects_only}
 
 -- the territories of sweeper k
 abbrev pub own_at : List (List TerritoryView) → ℕ → List TerritoryView
@@ -16,12 +20,10 @@ pub record AreDealt (n : ℕ) (all : List TerritoryView) (owns : List (List Terr
   pub count : length owns ≡ n
   pub each : (k : ℕ) → k < n → IsDealtTo n k all (own_at owns k)
 
--- so are registers, each with its number
-abbrev pub numbered : ℕ → Option Value → Option (ℕ × Value)
-numbered r o = option_map (λ v. (r, v)) o
-
-abbrev pub AreRegistersDealtTo : ℕ → ℕ → List Value → List (ℕ × Value) → Type 0
-AreRegistersDealtTo n k all own = (i : ℕ) → slice_get own i ≡ numbered (k + i * n) (slice_get all (k + i * n))
+-- the registers of sweeper k that hold objects, each with its number
+pub record AreRegistersDealtTo (n k : ℕ) (all : List Value) (own : List (ℕ × Value)) : Type 0 where
+  pub are : AreRegistersOf k n own
+  pub held : (r : ℕ) → r % n ≡ k → find nat_cmp r own ≡ objects_only (slice_get all r)
 
 -- the territories of threads 0 to 63 again
 pub record AreGathered (n : ℕ) (owns : List (List TerritoryView)) (all : List TerritoryView) : Type 0 where

@@ -1,5 +1,5 @@
 -- Where a collection has ended.
-use Rattle.std.specs.Prelude.{◌≡◌, ◌≢◌, ℕ, ◌<◌, List, length, slice_get, slice_index, Some}
+use Rattle.std.specs.Prelude.{◌≡◌, ◌≢◌, ℕ, ◌%◌, ◌<◌, List, length, slice_get, slice_index, None, Some}
 use Rattle.gc_words.specs.declared.value.Value.{Value}
 use Rattle.territory.specs.declared.territory.Targets.{Targets}
 use Rattle.territory.specs.Territories.{TerritoryView}
@@ -12,10 +12,11 @@ use Rattle.heap_store.specs.Changes.{HaveSoundCards}
 use Rattle.heap_store.specs.Stands.{AreSettled}
 use Rattle.sweeper.specs.Sweepers.{SweeperView}
 use Rattle.sweep_rounds.specs.Turns.{sweeper_at}
-use Rattle.collect_model.specs.Worlds.{HasEnded, world_in}
+use Rattle.collect_model.specs.Worlds.{HasEnded, KeepsOthers, world_in}
 use Rattle.collector.specs.Dealt.{own_at}
 
--- The sweepers were ended: each has its territories finished, and each register holds what its sweeper's holds.
+-- The sweepers were ended: each has its territories finished. A register that its sweeper has holds what the sweeper's
+-- holds, and every other is as it was.
 pub record AreEnded (sweepers : List SweeperView) (owns : List (List TerritoryView)) (before after : List Value)
     : Type 0 where
   pub count : length owns ≡ length sweepers
@@ -23,8 +24,10 @@ pub record AreEnded (sweepers : List SweeperView) (owns : List (List TerritoryVi
       → AreFinished (sweeper_at sweepers e k).share.territories (own_at owns k)
   pub shares : (k : ℕ) (e : SweeperView) → k < length sweepers → IsShare (sweeper_at sweepers e k).share
   pub registers_count : length after ≡ length before
-  pub registers : (k r : ℕ) (e : SweeperView) (v : Value) → k < length sweepers → r < length before
+  pub registers : (k r : ℕ) (e : SweeperView) (v : Value) → k < length sweepers → r % length sweepers ≡ k
       → register_in (sweeper_at sweepers e k).registers r ≡ Some v → slice_get after r ≡ Some v
+  pub others : (k r : ℕ) (e : SweeperView) → k < length sweepers → r % length sweepers ≡ k
+      → register_in (sweeper_at sweepers e k).registers r ≡ None → slice_get after r ≡ slice_get before r
 
 -- the registers with each of these in its place
 pub record ArePut (old new : List Value) (own : List (ℕ × Value)) : Type 0 where
@@ -40,6 +43,7 @@ pub record IsSwept (territories : List TerritoryView) (registers : List Value) (
   pub ended : HasEnded (world_in territories registers targets n) hands (starts_in new_territories) new_registers
   pub settled : AreSettled new_territories
   pub cards : HaveSoundCards new_territories
+  pub others : KeepsOthers registers new_registers
   pub registers_count : length new_registers ≡ length registers
   pub count : length counts ≡ n
   pub copied : (k : ℕ) → k < n → slice_index counts k ≡ length (hands k).own

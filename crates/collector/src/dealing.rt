@@ -1,4 +1,5 @@
-//! Territories and registers are dealt out to sweepers: those of number k go to the sweeper of k modulo their number.
+//! Territories and registers are dealt out to sweepers: those of number k go to the sweeper of k modulo their number. Of
+//! the registers only those are dealt out that hold objects, since a collection leaves the others as they are.
 
 ghost use Rattle.std.specs.Prelude.{◌≡◌, ◌<◌, ◌≤◌, [], ◌++◌, ◌∷◌, length, replicate, IfNone, IfOk, IfSome, OnOk};
 ghost use Rattle.collector.specs.Dealt.{AreDealt, AreRegistersDealtTo};
@@ -88,7 +89,7 @@ pub(crate) fn deal_territories(
     Ok(owns)
 }
 
-/// The registers of a sweeper, each with its number. Takes memory.
+/// The registers of a sweeper that hold objects, each with its number. Takes memory.
 pub(crate) fn deal_registers(
     alloc: Global,
     registers: &[Value],
@@ -100,10 +101,13 @@ pub(crate) fn deal_registers(
     requires all { length registers.now ≡ 4096 }
     ensures { IfOk result (λ v. AreRegistersDealtTo sweepers number registers.now v.items) }
 {
-    let mut own = Vec::with_capacity(alloc, registers.len() / sweepers as usize + 1)?;
+    let mut own = Vec::new(alloc);
     let mut register = number;
     while register < registers.len() as u32 {
-        own.push_reserved((register, registers[register as usize]));
+        let value = registers[register as usize];
+        if let Value::Object(_) = value {
+            own.push((register, value))?;
+        }
         register += sweepers;
     }
     Ok(own)

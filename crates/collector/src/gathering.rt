@@ -27,8 +27,8 @@ fn put_registers(registers: &mut [Value], own: &[(u32, Value)])
     }
 }
 
-/// Ends the collection of each sweeper: the territories of each, in the order of the sweepers. The registers hold what
-/// the sweepers' registers hold. Takes memory.
+/// Ends the collection of each sweeper: the territories of each, in the order of the sweepers. The registers that the
+/// sweepers have hold what theirs hold, and the others are as they were. Takes memory.
 pub(crate) fn end_all(
     alloc: Global,
     sweepers: Vec<Sweeper>,

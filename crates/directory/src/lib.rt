@@ -21,3 +21,4 @@ mod table;
 
 pub use directory::{Directory, Found};
 pub use near::Near;
+pub use table::FromSegment;

@@ -14,9 +14,12 @@ use gc_words::Address;
 /// A from-segment by its thread and number, and the generation to which its objects go.
 #[derive(Clone, Copy, Debug, PartialEq, Eq)]
 pub struct Near {
-    thread: u8,
-    segment: u64,
-    from: FromSegment,
+    /// The creator thread; 255 where nothing was looked at.
+    pub thread: u8,
+    /// The number of the segment.
+    pub segment: u64,
+    /// What the directory has there.
+    pub from: FromSegment,
     /// The generation to which the objects of the from-segment go.
     pub target: u8,
 }

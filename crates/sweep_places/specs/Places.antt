@@ -1,5 +1,5 @@
 -- What contracts see of a sweeper's places.
-use Rattle.std.specs.Prelude.{◌≡◌, ℕ, ◌+◌, ◌-◌, ◌<◌, List, [], ◌∷◌, length, slice_index, Option, None, Some}
+use Rattle.std.specs.Prelude.{◌≡◌, ℕ, ◌+◌, ◌-◌, ◌<◌, List, length, slice_index, Some}
 use Rattle.gc_words.specs.declared.value.Value.TheVariants.{Object}
 use Rattle.gc_words.specs.Word.{value_of}
 use Rattle.directory.specs.Directories.{CanStart, DirectoryView, HasOwnWords, TellsApart, owner_in, start_of, sweeper_count, word_in}
@@ -12,11 +12,6 @@ pub record PlacesView : Type 0 where
   pub directory : DirectoryView
   pub own : List (ℕ × ℕ)
   pub unswept : List (ℕ × ℕ)
-
--- what is there, as a list
-abbrev pub listed : Option (ℕ × ℕ) → List (ℕ × ℕ)
-listed None = []
-listed (Some f) = f ∷ []
 
 -- an object of sweeper k that may be forwarded: something may start there, and it is the sweeper's own
 pub record IsOwnStart (d : DirectoryView) (k a : ℕ) : Type 0 where

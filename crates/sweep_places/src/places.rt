@@ -3,7 +3,7 @@
 ghost use Rattle.std.specs.Prelude.{◌≡◌, ◌+◌, ◌^◌, ◌<◌, [], ◌∷◌, ◌++◌, Contains, IfNone, IfOk, IfSome, MatchOption, OnErr, OnOk, length, replicate};
 ghost use Rattle.directory.specs.Directories.{sweeper_count, word_in};
 ghost use Rattle.sweep_model.specs.Hands.{IsAbsent};
-ghost use Rattle.sweep_places.specs.Places.{IsOwnStart, listed};
+ghost use Rattle.sweep_places.specs.Places.{IsOwnStart};
 
 use directory::Directory;
 use gc_words::{Address, Value, decode, encode};
@@ -26,18 +26,15 @@ pub struct Places {
     table: Vec<u64>,
     /// How many objects were forwarded.
     count: u64,
-    /// The object that was forwarded last, with its place, until it is taken to be swept: a list that is followed to its
-    /// end touches no other.
-    last: Option<(Address, Address)>,
-    /// Those before it that are not swept.
+    /// The objects that are not swept, with their places, in the order of forwarding.
     unswept: Vec<(Address, Address)>,
     /// All objects with their places, in the order of forwarding. Contracts alone read it: it takes no memory.
     own: Log<Address, Address>,
 }
 
 impl Model for Places {
-    ghost use Rattle.std.specs.Prelude.{◌≡◌, ◌++◌, length};
-    ghost use Rattle.sweep_places.specs.Places.{ArePlaces, PlacesView, listed};
+    ghost use Rattle.std.specs.Prelude.{◌≡◌, length};
+    ghost use Rattle.sweep_places.specs.Places.{ArePlaces, PlacesView};
 
     ghost Value = { PlacesView };
 
@@ -45,7 +42,7 @@ impl Model for Places {
       number = p.number;
       directory = p.directory.value;
       own = p.own.items;
-      unswept = p.unswept.items ++ listed p.last;
+      unswept = p.unswept.items;
     } };
 
     ghost invariant = { λ p. ArePlaces p.directory.value p.number p.first p.table.items p.own.items
@@ -67,21 +64,6 @@ fn one_more(count: u64) -> Result<u64, AllocError>
     count.checked_add(1).ok_or(AllocError)
 }
 
-/// Pushes what is there. Err where memory is refused, which changes nothing.
-#[inline(always)]
-fn push_listed(
-    list: &mut Vec<(Address, Address)>,
-    last: Option<(Address, Address)>,
-) -> Result<(), AllocError>
-    ensures ok { OnOk result (list.new.items ≡ list.old.items ++ listed last) }
-    ensures err { OnErr result (list.new.items ≡ list.old.items) }
-{
-    if let Some(pair) = last {
-        list.push(pair)?;
-    }
-    Ok(())
-}
-
 impl Places {
     /// Places of which none is known yet, for a sweeper of this directory. Takes memory for each of its words.
     pub fn new(alloc: Global, directory: &Directory, number: u32) -> Result<Places, AllocError>
@@ -96,7 +78,6 @@ impl Places {
             first,
             table,
             count: 0,
-            last: None,
             unswept: Vec::new(alloc),
             own: Log::new(),
         })
@@ -153,8 +134,7 @@ impl Places {
         ensures err { OnErr result (self.new ≡ self.old) }
     {
         let count = one_more(self.count)?;
-        push_listed(&mut self.unswept, self.last)?;
-        self.last = Some((at, place));
+        self.unswept.push((at, place))?;
         self.enter(at, word, place, count);
         Ok(())
     }
@@ -184,10 +164,6 @@ impl Places {
         ensures same { IfNone result (self.new ≡ self.old) }
         ensures rest { self.new ≡ record self.old { unswept = self.new.unswept } }
     {
-        if let Some(last) = self.last {
-            self.last = None;
-            return Some(last);
-        }
         self.unswept.pop()
     }
 }

@@ -1,5 +1,5 @@
 -- A collection of nothing: no start, and no register that holds anything.
-use Rattle.std.proofs.Common.{◌≡◌, ℕ, ◌+◌, ◌/◌, ◌%◌, ◌<◌, ◌≤◌, ◌==◌, Bool, true, false, cond, slice_index_or, List, [], ◌∷◌, ◌++◌, length, Option, None, refl, sym, ◌∙◌, ap, subst, arith, inl, inr}
+use Rattle.std.proofs.Common.{◌≡◌, ℕ, ◌+◌, ◌/◌, ◌<◌, ◌≤◌, ◌==◌, Bool, true, false, cond, slice_index_or, List, [], ◌∷◌, ◌++◌, length, Option, None, refl, sym, ◌∙◌, ap, subst, arith, inl, inr}
 use Rattle.std.specs.FinMap.{empty, get, get-empty}
 use Rattle.std.specs.Ordering.{nat_cmp}
 use Rattle.std.proofs.lemmas.Bool.{cases_lt}
@@ -69,7 +69,7 @@ is_beginning d number ts none = record {
   targets = refl;
   starts = λ a mine. if_none (owner (sweeper_count d) a == number)
       (get (territory_of (first_share number d ts) a).starts a) (no_start ts none (thread_of a / sweeper_count d) a);
-  held = λ r mine. if_none (r % sweeper_count d == number) None refl;
+  held = λ r mine. refl;
   can_start = λ x s e young. absurd (none-some s e);
   generations = λ x s e young. absurd (none-some s e);
   older = λ x s e old. absurd (none-some s e);

@@ -1,9 +1,9 @@
 -- Slots to count: those of all words and registers that the sweepers have, with each object that starts at one.
 -- More of them do no harm: each slot of the world is among them, whatever of them is written already.
-use Rattle.std.proofs.Common.{◌≡◌, ℕ, zero, suc, ◌+◌, ◌*◌, ◌/◌, ◌%◌, ◌<◌, ◌≤◌, ◌==◌, false, true, cond, List, [], ◌∷◌, ◌++◌, map, length, slice_get, Contains, IsSome, refl, sym, ◌∙◌, ap, subst, arith, inl, inr, Option, None, Some}
-use Rattle.std.specs.FinMap.{entries, get, get-empty}
+use Rattle.std.proofs.Common.{◌≡◌, ℕ, zero, suc, ◌*◌, ◌/◌, ◌<◌, ◌≤◌, ◌==◌, false, true, cond, List, [], ◌∷◌, ◌++◌, map, length, Contains, IsSome, refl, sym, ◌∙◌, ap, subst, arith, inl, inr, Option, None, Some}
+use Rattle.std.specs.FinMap.{entries, find, get, get-empty}
 use Rattle.std.specs.Ordering.{nat_cmp}
-use Rattle.std.proofs.lemmas.Bool.{both_ways, cases_Bool, cases_lt, eqb-true}
+use Rattle.std.proofs.lemmas.Bool.{both_ways, cases_Bool, cases_eq, cases_lt}
 use Rattle.std.proofs.lemmas.List.{get_or_past}
 use Rattle.std.proofs.lemmas.List.Elements.{Contains-append_left, Contains-append_right, Contains-get_or}
 use Rattle.std.proofs.lemmas.Option.{none-some, same_Some}
@@ -29,8 +29,9 @@ use Rattle.sweep_model.specs.Hands.{IsKeptAt}
 use Rattle.sweep_model.proofs.Apt.{due_from, holder_in, owner_in}
 use Rattle.sweep_model.proofs.Names.{asks_collected, field_in}
 use Rattle.sweep_model.proofs.Tallying.{entry_there}
-use Rattle.sweep_share.specs.Registers.{RegistersView, held_in, register_in}
+use Rattle.sweep_share.specs.Registers.{register_in}
 use Rattle.sweep_share.specs.Shares.{ShareView, start_in, territory_of}
+use Rattle.sweep_share.proofs.Numbers.{find_later}
 use Rattle.sweeper.specs.Sweepers.{SweeperView, hand_of}
 use Rattle.sweep_rounds.specs.Turns.{StandTogether, Whole, sweeper_at}
 use Rattle.sweep_rounds.proofs.Turning.{IsLeft}
@@ -54,14 +55,14 @@ fields_of_starts : List (ℕ × Start) → List Back
 fields_of_starts [] = []
 fields_of_starts (e ∷ es) = fields_of e.0 (length e.1.words) ++ fields_of_starts es
 
--- the first n registers of a sweeper
-registers_of : RegistersView → ℕ → List Back
-registers_of s zero = []
-registers_of s (suc n) = back.Register (s.number + n * s.sweepers) ∷ registers_of s n
+-- the registers of a sweeper
+registers_of : List (ℕ × Value) → List Back
+registers_of [] = []
+registers_of (item ∷ items) = back.Register item.0 ∷ registers_of items
 
 registers_of_all : List SweeperView → List Back
 registers_of_all [] = []
-registers_of_all (v ∷ vs) = registers_of v.registers (length v.registers.items) ++ registers_of_all vs
+registers_of_all (v ∷ vs) = registers_of v.registers.items ++ registers_of_all vs
 
 -- each of these slots, with each of these objects
 slots_of : ℕ → List (ℕ × Start) → List Back → List Slot
@@ -117,29 +118,14 @@ in_fields_of_starts (e ∷ es) x i s c b = elim (contains_cases e es (x, s) c) [
       (in_fields_of_starts es x i s more b)
 ]
 
-in_registers : (s : RegistersView) (n i : ℕ) → i < n
-    → Contains (registers_of s n) (back.Register (s.number + i * s.sweepers))
-unfolding registers_of
-in_registers s zero i b = absurd (omega (arith, b))
-in_registers s (suc n) i b = elim (cases_lt i n) [
-  | inl low ↦ contains_there (back.Register (s.number + n * s.sweepers)) (registers_of s n)
-      (back.Register (s.number + i * s.sweepers)) (in_registers s n i low)
-  | inr far ↦
-      let same : n ≡ i = omega (arith, b, far) in
-      subst (λ j. Contains (back.Register (s.number + n * s.sweepers) ∷ registers_of s n)
-      (back.Register (s.number + j * s.sweepers))) same
-      (contains_here (back.Register (s.number + n * s.sweepers)) (registers_of s n))
-]
-
 in_all_registers : (vs : List SweeperView) (d : SweeperView) (k : ℕ) (b : Back) → k < length vs
-    → Contains (registers_of (sweeper_at vs d k).registers (length (sweeper_at vs d k).registers.items)) b
-    → Contains (registers_of_all vs) b
+    → Contains (registers_of (sweeper_at vs d k).registers.items) b → Contains (registers_of_all vs) b
 unfolding registers_of_all
 in_all_registers [] d k b inside c = absurd (omega (arith, inside))
 in_all_registers (v ∷ vs) d zero b inside c =
-    Contains-append_left (registers_of v.registers (length v.registers.items)) (registers_of_all vs) b c
+    Contains-append_left (registers_of v.registers.items) (registers_of_all vs) b c
 in_all_registers (v ∷ vs) d (suc k) b inside c =
-    Contains-append_right (registers_of v.registers (length v.registers.items)) (registers_of_all vs) b
+    Contains-append_right (registers_of v.registers.items) (registers_of_all vs) b
     (in_all_registers vs d k b (omega (arith, inside)) c)
 
 in_slots : (n : ℕ) (es : List (ℕ × Start)) (bs : List Back) (b : Back) (x : ℕ) (s : Start) → Contains bs b
@@ -179,28 +165,18 @@ started v x s is = elim (cases_Bool (owner v.sweepers x == v.number)) [
   | inr other ↦ absurd (none-some s (sym (ap (λ b. cond b (get (territory_of v x).starts x) None) other) ∙ is))
 ]
 
--- an index at which there is an item is within the list
-got_in : (items : List (ℕ × Value)) (i : ℕ) → IsSome (held_in (slice_get items i)) → i < length items
-got_in [] i e = absurd (both_ways false refl e)
-got_in (item ∷ items) zero e = omega arith
-got_in (item ∷ items) (suc i) e = let more : i < length items = got_in items i e in omega (arith, more)
-
 -- a register that is there is one of them
-registered : (s : RegistersView) (r : ℕ) → IsSome (register_in s r)
-    → Contains (registers_of s (length s.items)) (back.Register r)
-registered s r e = elim (cases_Bool (r % s.sweepers == s.number)) [
-  | inl own ↦
-      let there : IsSome (held_in (slice_get s.items (r / s.sweepers))) =
-      subst (λ o. IsSome o)
-      (ap (λ b. cond b (held_in (slice_get s.items (r / s.sweepers))) None) own) e in
-      let number_is : s.number + (r / s.sweepers) * s.sweepers ≡ r =
-      let rest : r % s.sweepers ≡ s.number = eqb-true (r % s.sweepers) s.number own in
-      omega (arith, rest) in
-      subst (λ z. Contains (registers_of s (length s.items)) (back.Register z)) number_is
-      (in_registers s (length s.items) (r / s.sweepers) (got_in s.items (r / s.sweepers) there))
-  | inr other ↦
-      absurd (both_ways false refl
-      (subst (λ o. IsSome o) (ap (λ b. cond b (held_in (slice_get s.items (r / s.sweepers))) None) other) e))
+registered : (items : List (ℕ × Value)) (r : ℕ) → IsSome (find nat_cmp r items)
+    → Contains (registers_of items) (back.Register r)
+unfolding registers_of
+registered [] r e = absurd (both_ways false refl e)
+registered (item ∷ items) r e = elim (cases_eq r item.0) [
+  | inl same ↦
+      subst (λ n. Contains (back.Register item.0 ∷ registers_of items) (back.Register n)) (sym same)
+      (contains_here (back.Register item.0) (registers_of items))
+  | inr ne ↦
+      contains_there (back.Register item.0) (registers_of items) (back.Register r)
+      (registered items r (subst IsSome (find_later r item items ne) e))
 ]
 
 -- ---- all slots of the world
@@ -244,7 +220,7 @@ module _ (world : World) (w : Setting) (vs : List SweeperView) (d : SweeperView)
       let has : IsSome (register_in v.registers r) =
       (t.ready k b).fits.registers r u wants (sym (t.stand.numbers k b)) in
       Contains-append_right (fields_of_starts (starts_of vs)) (registers_of_all vs) (back.Register r)
-      (in_all_registers vs d k (back.Register r) inside (registered v.registers r has))
+      (in_all_registers vs d k (back.Register r) inside (registered v.registers.items r has))
   back_there (back.Entry line part) u wants = absurd (none-some u wants)
   back_there (back.Wait x) u wants = absurd (none-some u wants)
   back_there back.Nothing u wants = absurd (none-some u wants)

@@ -1,9 +1,11 @@
 -- What contracts see of a sweeper's registers.
-use Rattle.std.specs.Prelude.{◌≡◌, ◌≢◌, ℕ, ◌+◌, ◌*◌, ◌/◌, ◌%◌, ◌<◌, ◌==◌, List, length, slice_get, slice_index_or, Option, None, Some, if◌then◌else◌}
+use Rattle.std.specs.Prelude.{◌≡◌, ◌≢◌, ℕ, ◌%◌, ◌<◌, List, length, slice_index_or, Option, Some}
+use Rattle.std.specs.FinMap.{find}
+use Rattle.std.specs.Ordering.{nat_cmp}
 use Rattle.gc_words.specs.declared.value.Value.{Value}
 use Rattle.gc_words.specs.declared.value.Value.TheVariants.{Nil, Object}
 
--- the registers of sweeper `number`, each with what it holds
+-- registers of sweeper `number`, each with what it holds
 pub record RegistersView : Type 0 where
   pub number : ℕ
   pub sweepers : ℕ
@@ -13,18 +15,15 @@ pub record RegistersView : Type 0 where
 abbrev pub item_at : List (ℕ × Value) → ℕ → ℕ × Value
 item_at items i = slice_index_or items i (0, Nil)
 
--- register number + i sweepers stands at index i
+-- they are the sweeper's by their numbers, which ascend
 pub record AreRegistersOf (number sweepers : ℕ) (items : List (ℕ × Value)) : Type 0 where
   pub number_in : number < sweepers
-  pub numbers : (i : ℕ) → i < length items → (item_at items i).0 ≡ number + i * sweepers
-
-abbrev pub held_in : Option (ℕ × Value) → Option Value
-held_in None = None
-held_in (Some item) = Some item.1
+  pub numbers : (i : ℕ) → i < length items → (item_at items i).0 % sweepers ≡ number
+  pub ascend : (i j : ℕ) → i < j → j < length items → (item_at items i).0 < (item_at items j).0
 
 -- what register r holds, where it is one of these
 abbrev pub register_in : RegistersView → ℕ → Option Value
-register_in s r = if r % s.sweepers == s.number then held_in (slice_get s.items (r / s.sweepers)) else None
+register_in s r = find nat_cmp r s.items
 
 -- register r holds the object at a place, and nothing else changed
 pub record IsSet (old new : RegistersView) (r place : ℕ) : Type 0 where

@@ -55,7 +55,7 @@ territory_of s a = slice_index_or s.territories (thread_of a / s.sweepers) (no_t
 abbrev pub start_in : ShareView → ℕ → Option Start
 start_in s a = if owner s.sweepers a == s.number then get (territory_of s a).starts a else None
 
--- the start is a pair of these words
+-- the start, where there is one, is a pair of these words
 abbrev pub IsPairOf : Option Start → ℕ → ℕ → Type 0
 IsPairOf start car cdr = IfSome start (λ x. (x.kind ≡ Pair) × (x.words ≡ car ∷ cdr ∷ []))
 

@@ -11,8 +11,9 @@
 //! this index for each of them, and 255 for the threads of other sweepers. `new` and `copy` take memory. That a
 //! collection divides the threads by remainder is this project's own.
 //!
-//! `Registers` are the sweeper's registers, with what they hold: those whose numbers leave k when divided by n, so that
-//! register k + i n stands at index i. `register_in` is what a register of its own holds. No call takes memory.
+//! `Registers` are registers of the sweeper, those that hold objects as a collection deals them out, each with what it
+//! holds: their numbers leave k when divided by n, and ascend, so that one is found by halving. `register_in` is what a
+//! register holds that is among them. No call takes memory.
 #![tactic(auto)]
 
 mod registers;

@@ -1,17 +1,18 @@
 //! The registers of a sweeper.
 
-ghost use Rattle.std.specs.Prelude.{◌≡◌, ◌+◌, ◌*◌, ◌<◌, IsSome, Some, length};
+ghost use Rattle.std.specs.Prelude.{◌≡◌, ◌<◌, IsSome, Some, length};
 ghost use Rattle.sweep_share.specs.Registers.{AreRegistersOf, IsSet, item_at, register_in};
 
 use gc_words::{Address, Value};
 use std::marker::Model;
 
-/// The registers whose numbers leave `number` when divided by `sweepers`, each with what it holds.
+/// Registers whose numbers leave `number` when divided by `sweepers`, each with what it holds. A collection deals out
+/// those that hold objects.
 #[derive(Drop)]
 pub struct Registers {
     number: u32,
     sweepers: u32,
-    /// Register `number + i sweepers` stands at index i.
+    /// In ascending order of their numbers.
     items: Vec<(u32, Value)>,
 }
 
@@ -26,7 +27,7 @@ impl Model for Registers {
 }
 
 impl Registers {
-    /// These registers: `number`, `number + sweepers` and so on, in this order.
+    /// These registers, in ascending order of their numbers.
     pub fn new(number: u32, sweepers: u32, items: Vec<(u32, Value)>) -> Registers
         requires { AreRegistersOf number sweepers items.items }
         ensures { result ≡ record { number = number; sweepers = sweepers; items = items.items } }
@@ -49,10 +50,18 @@ impl Registers {
     pub fn get(&self, i: usize) -> (u32, Value)
         requires { i < length self.now.items }
         ensures value { result ≡ item_at self.now.items i }
-        ensures number { result.0 ≡ self.now.number + i * self.now.sweepers }
         ensures holds { register_in self.now result.0 ≡ Some result.1 }
     {
         self.items[i]
+    }
+
+    /// Where register r stands.
+    fn index_of(&self, r: u32) -> usize
+        requires { IsSome (register_in self.now r) }
+        ensures within { result < length self.now.items }
+        ensures number { (item_at self.now.items result).0 ≡ r }
+    {
+        self.items.partition_point(|item| item.0 < r)
     }
 
     /// Lets register r hold the object at a place.
@@ -60,7 +69,7 @@ impl Registers {
         requires { IsSome (register_in self.old r) }
         ensures { IsSet self.old self.new r place }
     {
-        let i = (r / self.sweepers) as usize;
+        let i = self.index_of(r);
         self.items[i] = (r, Value::Object(place));
     }
 

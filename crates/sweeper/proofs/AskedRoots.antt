@@ -12,7 +12,7 @@ use Rattle.gc_mail.specs.declared.message.Slot.TheVariants as back
 use Rattle.directory.specs.declared.table.FromSegment.{FromSegment}
 use Rattle.directory.specs.Directories.{DirectoryView, IsCollected, from_at}
 use Rattle.sweep_model.specs.World.{object_in, strong_value}
-use Rattle.sweep_share.specs.Registers.{RegistersView, item_at}
+use Rattle.sweep_share.specs.Registers.{AreRegistersOf, RegistersView, item_at}
 use Rattle.sweep_share.specs.Shares.{ShareView}
 use Rattle.sweeper.specs.Sweepers.{asked_by, asked_in, if_aside}
 use Rattle.sweeper.specs.declared.starting.Mail.{Mail}
@@ -38,19 +38,18 @@ times_apart k i n less some e =
 -- register i was asked for
 pub register_asked : (s : ShareView) (m m' m'' : Mail) (d : DirectoryView) (r : RegistersView)
     (i number target : ℕ)
-    → 0 < r.sweepers → AreAsked s m m' (AsksOfRegisters d r i) → number ≡ r.number + i * r.sweepers
-    → (item_at r.items i).1 ≡ value.Object target → AreAsked s m' m''
-    (AsksFor d (back.Register number) target)
-    → AreAsked s m m'' (AsksOfRegisters d r (i + 1))
-register_asked s m m' m'' d r i number target some a is holds asked =
+    → AreRegistersOf r.number r.sweepers r.items → i < length r.items → AreAsked s m m' (AsksOfRegisters d r i)
+    → number ≡ (item_at r.items i).0 → (item_at r.items i).1 ≡ value.Object target
+    → AreAsked s m' m'' (AsksFor d (back.Register number) target) → AreAsked s m m'' (AsksOfRegisters d r (i + 1))
+register_asked s m m' m'' d r i number target are within a is holds asked =
     asked_next s m m' m'' (AsksOfRegister d r) i a
     (asked_as s m' m'' (AsksFor d (back.Register number) target) (AsksOfRegister d r i) asked
     (λ b t w. (w.0 ∙ ap (λ n. back.Register n) is, holds ∙ ap (λ n. value.Object n) (sym w.1), w.2))
     (λ b t w. (w.0 ∙ ap (λ n. back.Register n) (sym is), same_object _ t target w.1 holds, w.2)))
     (λ k b t u less w w'. apart k less (same_register _ _ (sym w.0 ∙ w'.0)))
   where
-    apart : (k : ℕ) → k < i → r.number + k * r.sweepers ≡ r.number + i * r.sweepers → ⊥
-    apart k less e = absurd (times_apart k i r.sweepers less some (omega (arith, e)))
+    apart : (k : ℕ) → k < i → (item_at r.items k).0 ≡ (item_at r.items i).0 → ⊥
+    apart k less e = let up = are.ascend k i less within in absurd (omega (arith, up, e))
 
 -- a register that holds no object asks for nothing
 pub register_past : (s : ShareView) (m m' : Mail) (d : DirectoryView) (r : RegistersView) (i : ℕ)

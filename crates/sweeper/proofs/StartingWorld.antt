@@ -2,10 +2,10 @@
 use Rattle.std.proofs.Common.{◌≡◌, ℕ, suc, ◌+◌, ◌*◌, ◌/◌, ◌%◌, ◌<◌, ◌≤◌, Bool, true, false, cond, List, [], ◌∷◌, length, get_or, nat_le, slice_get, Option, None, Some, IsSome, Contains, refl, sym, ap, subst, ◌∙◌, inl, inr, arith}
 use Rattle.std.specs.Prelude.{is_some}
 use Rattle.std.proofs.Math.Nat.{mod-add-div}
-use Rattle.std.proofs.lemmas.Bool.{cases_Bool, eq-eqb, false≢true}
+use Rattle.std.proofs.lemmas.Bool.{cases_Bool, false≢true}
 use Rattle.std.proofs.lemmas.Bool.Decides.{nat_tests}
 use Rattle.std.proofs.lemmas.Nat.{div-mul-add, mod-mul-add}
-use Rattle.std.proofs.lemmas.Option.{none-some, same_Some, slice_get-get_or, slice_get_within}
+use Rattle.std.proofs.lemmas.Option.{none-some, same_Some, slice_get_within}
 use Rattle.std.specs.FinMap.{get}
 use Rattle.gc_words.specs.declared.value.Value.{Value}
 use Rattle.gc_words.specs.declared.value.Value.TheVariants as value
@@ -27,9 +27,9 @@ use Rattle.directory.specs.Directories.{DirectoryView, IsCollected, from_at, swe
 use Rattle.sweep_model.specs.World.{IsWorld, World, asks, if_collected, is_collected, is_strong, is_young, object_in, strong_value}
 use Rattle.sweep_model.specs.Wholes.{IsRoot}
 use Rattle.sweep_model.proofs.Names.{collected_some, field_in}
-use Rattle.sweep_share.specs.Registers.{AreRegistersOf, held_in, item_at, register_in}
+use Rattle.sweep_share.specs.Registers.{AreRegistersOf, item_at, register_in}
 use Rattle.sweep_share.specs.Shares.{AreShareOf, ShareView, territory_at, territory_of}
-use Rattle.sweep_share.proofs.Numbers.{holds}
+use Rattle.sweep_share.proofs.Numbers.{found_at, holds}
 use Rattle.sweep_share.proofs.Places.{own_start}
 use Rattle.sweeper.specs.Sweepers.{asked_in, if_aside}
 use Rattle.sweeper.specs.Starting.{AreTold, AsksOfOldsOfAll, AsksOfRegisters, IsBeginning, first_registers, first_share, generation_of}
@@ -159,12 +159,10 @@ module _ (world : World) (number : ℕ) (d : DirectoryView) (territories : List 
   pub register_root : (are : AreRegistersOf number (sweeper_count d) items) (b : Slot) (t : ℕ)
       → AsksOfRegisters d (first_registers number d items) (length items) b t → AsksAsRoot world number b t
   register_root are b t w =
-      let r : ℕ = number + w.0 * sweeper_count d in
-      let mine : r % world.sweepers ≡ number = ap (λ n. r % n) begins.sweepers ∙ own_number w.0 in
+      let r : ℕ = (item_at items w.0).0 in
+      let mine : r % world.sweepers ≡ number = ap (λ n. r % n) begins.sweepers ∙ are.numbers w.0 w.1 in
       let held : register_in (first_registers number d items) r ≡ Some (item_at items w.0).1 =
-      subst (λ n. register_in (first_registers number d items) n ≡ Some (item_at items w.0).1)
-      (are.numbers w.0 w.1)
-      (holds (first_registers number d items) w.0 (item_at items w.0) are w.1 refl) in
+      holds (first_registers number d items) w.0 (item_at items w.0) are w.1 refl in
       let there : object_in (world.registers r) ≡ Some t =
       ap object_in (sym (begins.held r mine) ∙ (held ∙ ap Some w.2.1)) in
       let wants : asks world (back.Register r) ≡ Some t =
@@ -174,48 +172,17 @@ module _ (world : World) (number : ℕ) (d : DirectoryView) (territories : List 
         root = subst (IsRoot world) (sym w.2.0) tt;
         holder = ap (holder_of world.sweepers) w.2.0 ∙ mine;
       }
-    where
-      own_number : (k : ℕ) → (number + k * sweeper_count d) % sweeper_count d ≡ number
-      own_number k =
-          let e : number + k * sweeper_count d ≡ k * sweeper_count d + number = omega arith in
-          ap (λ n. n % sweeper_count d) e ∙ mod-mul-add k (sweeper_count d) number are.number_in
 
   pub root_register : (are : AreRegistersOf number (sweeper_count d) items) (r t : ℕ)
       → AsksAsRoot world number (back.Register r) t
       → AsksOfRegisters d (first_registers number d items) (length items) (back.Register r) t
   root_register are r t w =
-      let mine : r % sweeper_count d ≡ number = ap (λ n. r % n) (sym begins.sweepers) ∙ w.holder in
       let c = collected_some world (object_in (world.registers r)) t w.wants in
       let held : object_in (register_in (first_registers number d items) r) ≡ Some t =
       ap object_in (begins.held r w.holder) ∙ c.0 in
-      let there : held_in (slice_get items (r / sweeper_count d)) ≡ Some (value.Object t) =
-      ap (λ b. cond b (held_in (slice_get items (r / sweeper_count d))) None)
-      (sym (eq-eqb (r % sweeper_count d) number mine))
-      ∙ object_is (register_in (first_registers number d items) r) t held in
-      let at = found (slice_get items (r / sweeper_count d)) refl there in (
-        r / sweeper_count d,
-        at.0,
-        (
-          ap back.Register
-              (whole r (sweeper_count d) number mine),
-          at.1,
-          aside t c.1,
-        ),
-      )
-    where
-      found : (o : Option (ℕ × Value)) → slice_get items (r / sweeper_count d) ≡ o → held_in o ≡ Some
-          (value.Object t)
-          → (r / sweeper_count d < length items) × ((item_at items (r / sweeper_count d)).1 ≡ value.Object t)
-      found None is e = absurd (none-some _ e)
-      found (Some v) is e =
-          let within : r / sweeper_count d < length items =
-          slice_get_within items (r / sweeper_count d) v is in
-          let same : item_at items (r / sweeper_count d) ≡ v =
-          same_Some _ _ (sym (slice_get-get_or items (r / sweeper_count d) (0, value.Nil) within) ∙ is) in
-          (within, ap (λ (z : ℕ × Value). z.1) same ∙ same_Some _ _ e)
-
-      whole : (r n m : ℕ) → r % n ≡ m → r ≡ m + r / n * n
-      whole r n m e = let h = mod-add-div r n in omega (arith, h, e)
+      let f =
+      found_at items r (value.Object t) (object_is (register_in (first_registers number d items) r) t held) in
+      (f.0, f.1.within, (ap back.Register (sym f.1.number), f.1.value, aside t c.1))
 
   -- ---- fields of older objects
 

@@ -1,5 +1,5 @@
 -- What a sweeper is made of, and what it asks for as it begins.
-use Rattle.std.specs.Prelude.{◌≡◌, ℕ, ◌+◌, ◌*◌, ◌%◌, ◌<◌, ◌≤◌, ◌==◌, false, true, List, [], ◌∷◌, ◌++◌, length, slice_get, slice_index, if◌then◌else◌, Option, None, Some, Contains}
+use Rattle.std.specs.Prelude.{◌≡◌, ℕ, ◌%◌, ◌<◌, ◌≤◌, ◌==◌, false, true, List, [], ◌∷◌, ◌++◌, length, slice_get, slice_index, if◌then◌else◌, Option, None, Some, Contains}
 use Rattle.std.specs.FinMap.{get}
 use Rattle.gc_words.specs.declared.value.Value.{Value}
 use Rattle.gc_words.specs.declared.value.Value.TheVariants as value
@@ -101,8 +101,7 @@ OfFirst Wants n b t = (k : ℕ) × (k < n) × Wants k b t
 -- the register at index k
 abbrev pub AsksOfRegister : DirectoryView → RegistersView → ℕ → Slot → ℕ → Type 0
 AsksOfRegister d s k b t =
-    (b ≡ back.Register (s.number + k * s.sweepers)) × ((item_at s.items k).1 ≡ value.Object t)
-    × IsCollected d t
+    (b ≡ back.Register (item_at s.items k).0) × ((item_at s.items k).1 ≡ value.Object t) × IsCollected d t
 
 abbrev pub AsksOfRegisters : DirectoryView → RegistersView → ℕ → Slot → ℕ → Type 0
 AsksOfRegisters d s = OfFirst (AsksOfRegister d s)

@@ -49,19 +49,12 @@ impl Sweeper {
     /// Handles the cdr of a forwarded pair, which asks for a collected object. Where that is a pair which is copied now,
     /// it is swept next.
     #[inline(always)]
-    fn sweep_cdr(
-        &mut self,
-        pair: NextPair,
-        asked: Asked,
-        refers: u8,
-        directory: &Directory,
-    ) -> Result<Option<NextPair>, AllocError>
-        requires same { self.old.places.directory ≡ directory.now }
+    fn sweep_cdr(&mut self, pair: NextPair, asked: Asked) -> Result<Option<NextPair>, AllocError>
         requires index { asked.index ≡ 1 }
         requires target { asked_in self.old.places.directory (start_in self.old.share pair.object) 1 ≡ Some asked.target }
-        requires found { found_at directory.now asked.target ≡ Some asked.found }
-        requires refers { refers ≡ target_of directory.now.targets asked.found.generation }
-        requires generation_in { refers ≤ 8 }
+        requires found { found_at self.old.places.directory asked.target ≡ Some asked.found }
+        requires refers { asked.refers ≡ target_of self.old.places.directory.targets asked.found.generation }
+        requires generation_in { asked.refers ≤ 8 }
         requires field { 1 < length (words_of (start_in self.old.share pair.copy)) }
         requires own { owner self.old.share.sweepers asked.target ≡ self.old.share.number
             → CanKeep self.old asked.target }
@@ -69,11 +62,11 @@ impl Sweeper {
         ensures next { IfOk result (λ next. IfSome next (IsNextPair self.old)) }
     {
         let Some((car, cdr)) = self.fresh_pair(asked.target, asked.found.word) else {
-            self.sweep_field(pair.object, pair.copy, asked, directory)?;
+            self.sweep_field(pair.object, pair.copy, asked)?;
             return Ok(None);
         };
-        let place = self.copy_taken(asked.target, asked.found.word, refers)?;
-        self.put(pair.copy, 1, place, refers);
+        let place = self.copy_taken(asked.target, asked.found.word, asked.refers)?;
+        self.put(pair.copy, 1, place, asked.refers);
         Ok(Some(NextPair {
             object: asked.target,
             copy: place,
@@ -102,7 +95,7 @@ impl Sweeper {
         ensures near { IsNear directory.now near.new }
         ensures inbox { OnOk result (self.new.inbox ≡ self.old.inbox) }
     {
-        self.sweep_word(pair.object, pair.copy, 0, pair.car, directory)?;
+        self.sweep_word(pair.object, pair.copy, 0, pair.car, near, directory)?;
         let Some(target) = referred(pair.cdr) else {
             return Ok(None);
         };
@@ -113,8 +106,9 @@ impl Sweeper {
             index: 1,
             target,
             found,
+            refers: near.target,
         };
-        let next = self.sweep_cdr(pair, asked, near.target, directory)?;
+        let next = self.sweep_cdr(pair, asked)?;
         Ok(next)
     }
 
@@ -122,19 +116,21 @@ impl Sweeper {
     pub(crate) fn sweep_list(
         &mut self,
         first: NextPair,
+        near: &mut Near,
         directory: &Directory,
     ) -> Result<(), AllocError>
         requires same { self.old.places.directory ≡ directory.now }
+        requires near { IsNear directory.now near.old }
         requires ready { Ready (in_hand self.old first.object first.copy) }
         requires words { IsNextPair self.old first }
         ensures runs { OnOk result (Runs (in_hand self.old first.object first.copy) self.new) }
         ensures inbox { OnOk result (self.new.inbox ≡ self.old.inbox) }
         ensures less { OnOk result (left_of self.new < left_of (in_hand self.old first.object first.copy)) }
+        ensures near { IsNear directory.now near.new }
     {
-        let mut near = Near::none();
         let mut next = Some(first);
         while let Some(pair) = next {
-            next = self.sweep_pair(pair, &mut near, directory)?;
+            next = self.sweep_pair(pair, near, directory)?;
         }
         Ok(())
     }

@@ -3,12 +3,13 @@
 ghost use Rattle.std.specs.Prelude.{◌≡◌, ◌↔◌, ◌<◌, ◌≤◌, Some, IfNone, IfSome, IsSome, IsTrue, length, slice_index};
 ghost use Rattle.std.specs.FinMap as map;
 ghost use Rattle.territory.specs.Territories.{card_byte, words_of};
+ghost use Rattle.directory.specs.Nears.{IsNear};
 ghost use Rattle.sweeper.specs.Sweepers.{asked_by};
 ghost use Rattle.sweeper.specs.Starting.{AskNothingOld};
 
 use crate::fields::{Asked, first_asked};
 use cards::WORDS_PER_CARD;
-use directory::Directory;
+use directory::{Directory, Near};
 use gc_words::Address;
 use territory::Territory;
 
@@ -36,8 +37,10 @@ pub(crate) fn next_old_asked(
     object: Address,
     from: u32,
     end: u32,
+    near: &mut Near,
     directory: &Directory,
 ) -> Option<Asked>
+    requires near { IsNear directory.now near.old }
     requires start { IsSome (map.get territory.now.starts object) }
     requires end { end ≤ length (words_of (map.get territory.now.starts object)) }
     ensures within { IfSome result (λ a. (from ≤ a.index) × (a.index < end)) }
@@ -46,13 +49,14 @@ pub(crate) fn next_old_asked(
         (slice_index (words_of (map.get territory.now.starts object)) a.index) ≡ Some a.target) }
     ensures first { IfSome result (λ a. AskNothingOld directory.now territory.now object from a.index) }
     ensures none { IfNone result (AskNothingOld directory.now territory.now object from end) }
+    ensures near { IsNear directory.now near.new }
 {
     let fields = territory.fields(object);
     let mut next = from;
     while next < end {
         let index = territory.next_dirty_word(object, next, directory.cg())?;
         let stop = end.min(index.saturating_add(WINDOW));
-        let found = first_asked(fields, index, stop, directory);
+        let found = first_asked(fields, index, stop, near, directory);
         let Some(asked) = found else {
             next = stop;
             continue;

@@ -10,6 +10,7 @@ ghost use Rattle.std.specs.FinMap as map;
 ghost use Rattle.territory.specs.Olds.{olds_of};
 ghost use Rattle.territory.specs.Territories.{words_of};
 ghost use Rattle.directory.specs.Directories.{sweeper_count};
+ghost use Rattle.directory.specs.Nears.{IsNear};
 ghost use Rattle.sweep_model.specs.World.{IsWorld, World};
 ghost use Rattle.sweep_share.specs.Registers.{AreRegistersOf};
 ghost use Rattle.sweep_share.specs.Shares.{AreShareOf, IsShare, territory_at};
@@ -19,7 +20,7 @@ ghost use Rattle.sweeper.specs.Starting.{AsksFor, AsksOfObject, AsksOfOlds, Asks
 use crate::Sweeper;
 use crate::fields::strong_fields;
 use crate::olds::next_old_asked;
-use directory::Directory;
+use directory::{Directory, Near};
 use gc_mail::{Inbox, Message, Outbox, Slot};
 use gc_words::{Address, Value};
 use std::alloc::{AllocError, Global};
@@ -64,7 +65,7 @@ impl Mail {
         share: &Share,
         directory: &Directory,
     ) -> Result<(), AllocError>
-        requires { 0 < registers.now.sweepers }
+        requires { AreRegistersOf registers.now.number registers.now.sweepers registers.now.items }
         ensures { OnOk result (AreAsked share.now self.old self.new
             (AsksOfRegisters directory.now registers.now (length registers.now.items))) }
     {
@@ -84,16 +85,19 @@ impl Mail {
         object: Address,
         territory: &Territory,
         share: &Share,
+        near: &mut Near,
         directory: &Directory,
     ) -> Result<(), AllocError>
-        requires { IsSome (map.get territory.now.starts object) }
-        ensures { OnOk result (AreAsked share.now self.old self.new
+        requires start { IsSome (map.get territory.now.starts object) }
+        requires near { IsNear directory.now near.old }
+        ensures asked { OnOk result (AreAsked share.now self.old self.new
             (AsksOfObject directory.now territory.now object
             (length (words_of (map.get territory.now.starts object))))) }
+        ensures near { IsNear directory.now near.new }
     {
         let (first, end) = strong_fields(territory.kind(object), territory.length(object));
         let mut from = first;
-        while let Some(asked) = next_old_asked(territory, object, from, end, directory) {
+        while let Some(asked) = next_old_asked(territory, object, from, end, near, directory) {
             let index = asked.index;
             self.ask(
                 asked.target,
@@ -119,9 +123,10 @@ impl Mail {
         ensures told { AreTold territory.now directory.now.targets.cg }
     {
         let cg = directory.cg();
+        let mut near = Near::none();
         let mut at = territory.first_old(cg);
         while let Some(object) = at {
-            self.ask_object(object, territory, share, directory)?;
+            self.ask_object(object, territory, share, &mut near, directory)?;
             at = territory.next_old(object, cg);
         }
         Ok(())
@@ -143,11 +148,12 @@ impl Mail {
 }
 
 impl Sweeper {
-    /// The sweeper of this number of a collection, with its registers and its territories, which have begun the
-    /// collection. It has asked for each collected object to which a register or an older object of its own refers:
-    /// of itself, where the object is its own, else of the owner. The marks on its cards are raised, so that those
-    /// of collected generations come with the new places. Takes memory for its share, its places and its mail;
-    /// AllocError where it is refused, and what the sweeper was to have is dropped then.
+    /// The sweeper of this number of a collection, with its territories, which have begun the collection, and those of
+    /// its registers that hold objects, in ascending order of their numbers. It has asked for each collected object to
+    /// which a register or an older object of its own refers: of itself, where the object is its own, else of the
+    /// owner. The marks on its cards are raised, so that those of collected generations come with the new places.
+    /// Takes memory for its share, its places and its mail; AllocError where it is refused, and what the sweeper was
+    /// to have is dropped then.
     pub fn new(
         alloc: Global,
         number: u32,

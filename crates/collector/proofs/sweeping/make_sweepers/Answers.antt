@@ -13,7 +13,6 @@ use Rattle.sweeper.specs.Starting.{IsBeginning}
 use Rattle.sweep_rounds.specs.Turns.{sweeper_at}
 use Rattle.collector.specs.Begun.{IsMade}
 use Rattle.collector.specs.Dealt.{AreRegistersDealtTo, own_at}
-use Rattle.collector.proofs.BegunDealt.{dealt_registers_of}
 use Rattle.collector.proofs.sweeping.make_sweepers.Goals as goal
 
 made_more : (d : DirectoryView) (registers : List Value) (owns : List (List TerritoryView)) (own : List TerritoryView)
@@ -57,15 +56,11 @@ new-requires-clause-territories c =
 
 pub new-requires-clause-registers : goal.new-requires-clause-registers
 new-requires-clause-registers c =
-    let gives = c.into_iter-own-iterator.ensures.into_iter_gives in
-    let turn = YieldsList-turn (YieldsList-from_vec {s = c.into_iter-own-iterator.result} c.args.owns.items gives.0 (gives.1 ∙ c.args.owns.ok.0))
-    c.loop-own.yielded c.loop-own.own-iterator c.loop-own.yielded_by c.next.result c.next.new.self c.in-Some.own
-    c.in-Some.is c.next.ensures.steps in
     let own : List (ℕ × Value) = c.in_ok-own_registers.own_registers.items in
-    dealt_registers_of (sweeper_count c.args.directory.now) c.loop-own.number c.args.registers.now own
-    (omega (arith, turn.0, c.loop-own.invariant.at, c.requires.count))
-    (subst (λ n. AreRegistersDealtTo n c.loop-own.number c.args.registers.now own) c.sweepers-count.ensures.value
-    c.in_ok-own_registers.ensures)
+    let dealt : AreRegistersDealtTo (sweeper_count c.args.directory.now) c.loop-own.number c.args.registers.now own =
+    subst (λ n. AreRegistersDealtTo n c.loop-own.number c.args.registers.now own) c.sweepers-count.ensures.value
+    c.in_ok-own_registers.ensures in
+    dealt.are
 
 pub loop-own-preserved : goal.loop-own-preserved
 loop-own-preserved c =

@@ -5,4 +5,5 @@ pub loop-next-init : goal.loop-next-init
 loop-next-init c = record {
   order = omega arith;
   none = λ i low high card. absurd (omega (arith, low, high));
+  near = c.requires.near;
 }

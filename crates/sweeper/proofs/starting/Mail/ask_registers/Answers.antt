@@ -18,7 +18,9 @@ loop-i-preserved c = elim c.match-value.branch [
       (sym w.self-is)
       (register_asked c.args.share.now c.args.self.now c.loop-i.self w.ask.new.self c.args.directory.now
       c.args.registers.now c.loop-i.i
-      c.get-register.result.0 w.in-Object.target c.requires c.loop-i.invariant c.get-register.ensures.number
+      c.get-register.result.0 w.in-Object.target c.requires
+      (omega (arith, c.loop-i-test.true, c.loop-i.auto.i-end, c.len-i-end.ensures)) c.loop-i.invariant
+      (ap (λ (v : ℕ × Value). v.0) c.get-register.ensures.value)
       (sym (ap (λ (v : ℕ × Value). v.1) c.get-register.ensures.value) ∙ w.in-Object.is) w.in_ok-ask.ensures)
   | in_default w ↦ subst (λ (z : Mail). AreAsked c.args.share.now c.args.self.now z
       (AsksOfRegisters c.args.directory.now c.args.registers.now (c.loop-i.i + 1)))

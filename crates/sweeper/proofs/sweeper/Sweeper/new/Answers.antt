@@ -1,8 +1,14 @@
-use Rattle.std.proofs.Common.{ℕ, ap, ◌∙◌}
-use Rattle.sweep_share.specs.Registers.{RegistersView}
+use Rattle.std.proofs.Common.{ℕ, sym, ap, subst, ◌∙◌}
+use Rattle.sweep_share.specs.Registers.{AreRegistersOf, RegistersView}
 use Rattle.sweep_share.specs.Shares.{ShareView}
 use Rattle.sweeper.proofs.Begun.{begun}
 use Rattle.sweeper.proofs.sweeper.Sweeper.new.Goals as goal
+
+pub ask_registers-requires : goal.ask_registers-requires
+ask_registers-requires c =
+    subst (λ (w : RegistersView). AreRegistersOf w.number w.sweepers w.items) (sym c.new-registers.ensures)
+    (subst (λ n. AreRegistersOf c.args.number n c.args.registers.items) (sym c.sweepers-sweepers.ensures.value)
+    c.requires.registers)
 
 pub returns-clause-begun : goal.returns-clause-begun
 returns-clause-begun c = λ world good begins.

@@ -4,7 +4,7 @@ use Rattle.sweeper.proofs.WorldMail.{runs_none, runs_on}
 use Rattle.sweeper.proofs.sweeper.Sweeper.sweep_all.Goals as goal
 
 pub loop-init : goal.loop-init
-loop-init c = record { runs = runs_none c.args.self.now; inbox = refl }
+loop-init c = record { runs = runs_none c.args.self.now; inbox = refl; near = c.none-near.ensures c.args.directory.now }
 
 pub sweep_next-requires-clause-ready : goal.sweep_next-requires-clause-ready
 sweep_next-requires-clause-ready c =
@@ -14,6 +14,7 @@ pub loop-preserved : goal.loop-preserved
 loop-preserved c = record {
   runs = runs_on c.args.self.now c.loop.self c.sweep_next.new.self c.loop.invariant.runs c.in_ok-sweep_next.ensures.runs;
   inbox = c.in_ok-sweep_next.ensures.inbox ∙ c.loop.invariant.inbox;
+  near = c.in_ok-sweep_next.ensures.near;
 }
 
 pub returns-clause-runs : goal.returns-clause-runs

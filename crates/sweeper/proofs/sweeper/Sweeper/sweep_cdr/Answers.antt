@@ -1,4 +1,4 @@
-use Rattle.std.proofs.Common.{subst}
+use Rattle.std.proofs.Common.{refl, subst}
 use Rattle.sweeper.specs.Sweepers.{CanKeep, FieldDone, IsKeptNow, in_hand}
 use Rattle.sweeper.proofs.Fielding.{goes_to_target, own_done}
 use Rattle.sweeper.proofs.InHand.{puts_in_hand}
@@ -14,7 +14,7 @@ returns-clause-done c =
     let may : CanKeep c.args.self.now c.args.asked.target = c.requires.own c.in-Some.ensures.own in
     own_done c.args.self.now (in_hand c.copy_taken.new.self c.args.asked.target c.in_ok-place.place)
     (in_hand c.put.new.self c.args.asked.target c.in_ok-place.place) c.args.pair.object c.args.pair.copy 1 c.args.asked.target
-    c.in_ok-place.place c.args.refers may c.requires.target (IsKeptNow c.in_ok-place.ensures)
-    (goes_to_target c.args.self.now c.args.directory.now c.args.asked.target c.args.refers c.args.asked.found may
-    c.requires.same c.requires.found c.requires.refers)
+    c.in_ok-place.place c.args.asked.refers may c.requires.target (IsKeptNow c.in_ok-place.ensures)
+    (goes_to_target c.args.self.now c.args.self.now.places.directory c.args.asked.target c.args.asked.refers c.args.asked.found may
+    refl c.requires.found c.requires.refers)
     (puts_in_hand c.copy_taken.new.self c.put.new.self _ _ _ _ c.args.asked.target c.in_ok-place.place c.put.ensures)

@@ -10,7 +10,7 @@ pub loop-next-init : goal.loop-next-init
 loop-next-init c = record {
   runs = runs_none (in_hand c.args.self.now c.args.first.object c.args.first.copy);
   words = c.requires.words;
-  near = c.none-near.ensures c.args.directory.now;
+  near = c.requires.near;
   same = c.requires.same;
   inbox = refl;
   most = omega arith;

@@ -35,6 +35,7 @@ loop-asked-init c =
       left = hand_left c.args.self.now c.args.object c.args.copy;
       inbox = refl;
       directory = refl;
+      near = c.requires.near;
     }
 
 pub next_asked-requires-clause-end : goal.next_asked-requires-clause-end
@@ -96,6 +97,7 @@ loop-asked-preserved c =
       left = subst (λ n. n < left_of (in_hand c.args.self.now c.args.object c.args.copy)) (sym left.left) c.loop-asked.invariant.left;
       inbox = left.inbox ∙ c.loop-asked.invariant.inbox;
       directory = left.directory ∙ c.loop-asked.invariant.directory;
+      near = c.next_asked.ensures.near;
     }
 
 pub returns-clause-runs : goal.returns-clause-runs

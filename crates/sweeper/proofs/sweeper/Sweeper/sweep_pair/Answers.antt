@@ -26,7 +26,7 @@ pub returns-in_default-clause-runs : goal.returns-in_default-clause-runs
 returns-in_default-clause-runs c =
     let t = pair_taken c.args.self.now c.args.pair c.requires.ready c.requires.words in
     let at = pair_begun c.args.self.now c.args.pair c.requires.ready c.requires.words c.args.directory.now c.requires.same in
-    let one = pair_more _ _ _ t c.args.self.now c.args.directory.now 0 at (omega arith) c.sweep_word.new.self c.in_ok-sweep_word.ensures in
+    let one = pair_more _ _ _ t c.args.self.now c.args.directory.now 0 at (omega arith) c.sweep_word.new.self c.in_ok-sweep_word.ensures.done in
     let none = refers_not c.args.directory.now c.args.pair.cdr (sym c.referred.ensures ∙ c.in_default.is) in
     pair_runs _ _ _ t c.sweep_word.new.self c.args.directory.now
     (pair_more _ _ _ t c.sweep_word.new.self c.args.directory.now 1 one (omega arith) c.sweep_word.new.self
@@ -36,14 +36,14 @@ pub returns-in_default-clause-less : goal.returns-in_default-clause-less
 returns-in_default-clause-less c =
     let t = pair_taken c.args.self.now c.args.pair c.requires.ready c.requires.words in
     let at = pair_begun c.args.self.now c.args.pair c.requires.ready c.requires.words c.args.directory.now c.requires.same in
-    let one = pair_more _ _ _ t c.args.self.now c.args.directory.now 0 at (omega arith) c.sweep_word.new.self c.in_ok-sweep_word.ensures in
+    let one = pair_more _ _ _ t c.args.self.now c.args.directory.now 0 at (omega arith) c.sweep_word.new.self c.in_ok-sweep_word.ensures.done in
     one.left
 
 pub returns-in_default-find_near-clause-runs : goal.returns-in_default-find_near-clause-runs
 returns-in_default-find_near-clause-runs c =
     let t = pair_taken c.args.self.now c.args.pair c.requires.ready c.requires.words in
     let at = pair_begun c.args.self.now c.args.pair c.requires.ready c.requires.words c.args.directory.now c.requires.same in
-    let one = pair_more _ _ _ t c.args.self.now c.args.directory.now 0 at (omega arith) c.sweep_word.new.self c.in_ok-sweep_word.ensures in
+    let one = pair_more _ _ _ t c.args.self.now c.args.directory.now 0 at (omega arith) c.sweep_word.new.self c.in_ok-sweep_word.ensures.done in
     let none = lies_elsewhere c.args.directory.now c.args.pair.cdr c.in-Some.target (sym c.referred.ensures ∙ c.in-Some.is)
     (sym c.find_near.ensures.value ∙ c.in_default-find_near.is) in
     pair_runs _ _ _ t c.sweep_word.new.self c.args.directory.now
@@ -54,7 +54,7 @@ pub returns-in_default-find_near-clause-less : goal.returns-in_default-find_near
 returns-in_default-find_near-clause-less c =
     let t = pair_taken c.args.self.now c.args.pair c.requires.ready c.requires.words in
     let at = pair_begun c.args.self.now c.args.pair c.requires.ready c.requires.words c.args.directory.now c.requires.same in
-    let one = pair_more _ _ _ t c.args.self.now c.args.directory.now 0 at (omega arith) c.sweep_word.new.self c.in_ok-sweep_word.ensures in
+    let one = pair_more _ _ _ t c.args.self.now c.args.directory.now 0 at (omega arith) c.sweep_word.new.self c.in_ok-sweep_word.ensures.done in
     one.left
 
 -- ---- the cdr asks for a collected object
@@ -63,7 +63,7 @@ pub sweep_cdr-requires-clause-target : goal.sweep_cdr-requires-clause-target
 sweep_cdr-requires-clause-target c =
     let t = pair_taken c.args.self.now c.args.pair c.requires.ready c.requires.words in
     let at = pair_begun c.args.self.now c.args.pair c.requires.ready c.requires.words c.args.directory.now c.requires.same in
-    let one = pair_more _ _ _ t c.args.self.now c.args.directory.now 0 at (omega arith) c.sweep_word.new.self c.in_ok-sweep_word.ensures in
+    let one = pair_more _ _ _ t c.args.self.now c.args.directory.now 0 at (omega arith) c.sweep_word.new.self c.in_ok-sweep_word.ensures.done in
     pair_asks c.args.self.now c.args.pair c.requires.ready c.requires.words c.sweep_word.new.self c.args.directory.now 1 one (omega arith)
     ∙ lies_aside c.args.directory.now c.args.pair.cdr c.in-Some.target c.in-Some-find_near.found (sym c.referred.ensures ∙ c.in-Some.is)
     (sym c.find_near.ensures.value ∙ c.in-Some-find_near.is)
@@ -72,14 +72,14 @@ pub sweep_cdr-requires-clause-field : goal.sweep_cdr-requires-clause-field
 sweep_cdr-requires-clause-field c =
     let t = pair_taken c.args.self.now c.args.pair c.requires.ready c.requires.words in
     let at = pair_begun c.args.self.now c.args.pair c.requires.ready c.requires.words c.args.directory.now c.requires.same in
-    let one = pair_more _ _ _ t c.args.self.now c.args.directory.now 0 at (omega arith) c.sweep_word.new.self c.in_ok-sweep_word.ensures in
+    let one = pair_more _ _ _ t c.args.self.now c.args.directory.now 0 at (omega arith) c.sweep_word.new.self c.in_ok-sweep_word.ensures.done in
     pair_copy _ _ _ t c.sweep_word.new.self c.args.directory.now 1 one (omega arith)
 
 pub sweep_cdr-requires-clause-own : goal.sweep_cdr-requires-clause-own
 sweep_cdr-requires-clause-own c =
     let t = pair_taken c.args.self.now c.args.pair c.requires.ready c.requires.words in
     let at = pair_begun c.args.self.now c.args.pair c.requires.ready c.requires.words c.args.directory.now c.requires.same in
-    let one = pair_more _ _ _ t c.args.self.now c.args.directory.now 0 at (omega arith) c.sweep_word.new.self c.in_ok-sweep_word.ensures in
+    let one = pair_more _ _ _ t c.args.self.now c.args.directory.now 0 at (omega arith) c.sweep_word.new.self c.in_ok-sweep_word.ensures.done in
     pair_keeps _ _ _ t c.sweep_word.new.self c.args.directory.now 1 one (omega arith) c.args.pair.cdr
     (pair_asks c.args.self.now c.args.pair c.requires.ready c.requires.words c.sweep_word.new.self c.args.directory.now 1 one (omega arith))
     c.in-Some.target
@@ -90,7 +90,7 @@ pub returns-clause-runs : goal.returns-clause-runs
 returns-clause-runs c =
     let t = pair_taken c.args.self.now c.args.pair c.requires.ready c.requires.words in
     let at = pair_begun c.args.self.now c.args.pair c.requires.ready c.requires.words c.args.directory.now c.requires.same in
-    let one = pair_more _ _ _ t c.args.self.now c.args.directory.now 0 at (omega arith) c.sweep_word.new.self c.in_ok-sweep_word.ensures in
+    let one = pair_more _ _ _ t c.args.self.now c.args.directory.now 0 at (omega arith) c.sweep_word.new.self c.in_ok-sweep_word.ensures.done in
     let both = pair_more _ _ _ t c.sweep_word.new.self c.args.directory.now 1 one (omega arith) (with_next c.sweep_cdr.new.self c.in_ok-next.next) c.in_ok-next.ensures.done in
     pair_runs _ _ _ t (with_next c.sweep_cdr.new.self c.in_ok-next.next) c.args.directory.now both
 
@@ -98,7 +98,7 @@ pub returns-clause-words : goal.returns-clause-words
 returns-clause-words c =
     let t = pair_taken c.args.self.now c.args.pair c.requires.ready c.requires.words in
     let at = pair_begun c.args.self.now c.args.pair c.requires.ready c.requires.words c.args.directory.now c.requires.same in
-    let one = pair_more _ _ _ t c.args.self.now c.args.directory.now 0 at (omega arith) c.sweep_word.new.self c.in_ok-sweep_word.ensures in
+    let one = pair_more _ _ _ t c.args.self.now c.args.directory.now 0 at (omega arith) c.sweep_word.new.self c.in_ok-sweep_word.ensures.done in
     let both = pair_more _ _ _ t c.sweep_word.new.self c.args.directory.now 1 one (omega arith) (with_next c.sweep_cdr.new.self c.in_ok-next.next) c.in_ok-next.ensures.done in
     next_same c.args.self.now c.args.pair c.requires.ready c.requires.words c.sweep_word.new.self c.sweep_cdr.new.self c.args.directory.now one c.in_ok-next.next
     (pair_runs _ _ _ t (with_next c.sweep_cdr.new.self c.in_ok-next.next) c.args.directory.now both) c.in_ok-next.ensures.next
@@ -107,6 +107,6 @@ pub returns-clause-less : goal.returns-clause-less
 returns-clause-less c =
     let t = pair_taken c.args.self.now c.args.pair c.requires.ready c.requires.words in
     let at = pair_begun c.args.self.now c.args.pair c.requires.ready c.requires.words c.args.directory.now c.requires.same in
-    let one = pair_more _ _ _ t c.args.self.now c.args.directory.now 0 at (omega arith) c.sweep_word.new.self c.in_ok-sweep_word.ensures in
+    let one = pair_more _ _ _ t c.args.self.now c.args.directory.now 0 at (omega arith) c.sweep_word.new.self c.in_ok-sweep_word.ensures.done in
     let both = pair_more _ _ _ t c.sweep_word.new.self c.args.directory.now 1 one (omega arith) (with_next c.sweep_cdr.new.self c.in_ok-next.next) c.in_ok-next.ensures.done in
     both.left
