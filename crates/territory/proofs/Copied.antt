@@ -57,7 +57,7 @@ pub record CanCopy (p source : Segment) (k : ℕ) : Type 0 where
 run_room : (p q : Segment) (k : ℕ) → CanCopy p q k → HasRoom p (length (run_at q k))
 run_room p q k c = subst (HasRoom p) (sym (length-run q k c.source_sound.laid c.start.1)) c.room
 
-copy_sound : (p q : Segment) (k : ℕ) → CanCopy p q k → IsSound (with_copy p q k)
+pub copy_sound : (p q : Segment) (k : ℕ) → CanCopy p q k → IsSound (with_copy p q k)
 copy_sound p q k c = IsSound-run p (run_at q k) (get_or q.births k 0) c.sound (is_run p q k c.source_sound.laid c.start.1 c.space) (run_room p q k c)
 
 pub copy_other : (p q : Segment) (k j : ℕ) → CanCopy p q k → j ≢ p.top / 2 → spot (with_copy p q k) j ≡ spot p j

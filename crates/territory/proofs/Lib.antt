@@ -42,3 +42,7 @@ pub mod Finished
 pub mod Marks
 pub mod FinishedTerritory
 pub mod OldByWords
+pub mod Reeling
+pub mod Stepping
+pub mod Trailing
+pub mod Ending

@@ -6,3 +6,5 @@ pub mod Copies
 pub mod Olds
 pub mod Finishing
 pub mod FinishedPools
+pub mod Following
+pub mod FollowedSegments

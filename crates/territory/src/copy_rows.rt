@@ -26,13 +26,13 @@ fn has_word(territory: &Territory, at: Address, index: u32) -> bool
     u64::from(index) < count
 }
 
-fn put(territory: &mut Territory, at: Address, index: u32, word: u64) {
+pub fn put(territory: &mut Territory, at: Address, index: u32, word: u64) {
     if has_word(territory, at, index) {
         territory.put(at, index, word, 255);
     }
 }
 
-fn word(territory: &Territory, at: Address, index: u32) -> u64 {
+pub fn word(territory: &Territory, at: Address, index: u32) -> u64 {
     if has_word(territory, at, index) {
         territory.word(at, index)
     } else {

@@ -7,13 +7,16 @@
 //!
 //! Invariant: every number stands in the list of its segment's generation, once; an open segment is of its
 //! area; the dirty ones are listed, and no others; four counters are what a count would give; each segment in
-//! use has a start; between collections no start is held. `new`, `allocate` and `copy` alone take memory; no
-//! call looks through all segments.
+//! use has a start; between collections no start is held. `new`, `allocate`, `copy` and `follow` alone take
+//! memory; no call looks through all segments.
 #![tactic(auto)]
 
 #[cfg(test)]
 mod copy_rows;
 mod counts;
+#[cfg(test)]
+mod follow_rows;
+mod following;
 #[cfg(test)]
 mod old_rows;
 mod pool;
@@ -22,5 +25,6 @@ mod rows;
 mod territory;
 
 pub use counts::SegmentCounts;
+pub use following::{CopyLog, Followed};
 pub use segment::Space;
 pub use territory::{Targets, Territory};

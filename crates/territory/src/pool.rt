@@ -7,6 +7,7 @@ ghost use Rattle.territory.specs.Pools.{IsSettled, numbered};
 mod collection;
 mod copying;
 mod finishing;
+mod following;
 mod lists;
 mod numbers;
 mod objects;
@@ -14,6 +15,7 @@ mod olds;
 mod room;
 
 use crate::counts::SegmentCounts;
+pub use following::{Between, object_in};
 use seg_chain::Chains;
 use segment::Segment;
 use std::alloc::{AllocError, Global};

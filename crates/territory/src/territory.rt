@@ -10,6 +10,7 @@ mod allocating;
 mod collecting;
 mod copying;
 mod finishing;
+mod following;
 mod listing;
 mod olds;
 

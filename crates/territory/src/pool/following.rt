@@ -1,0 +1,409 @@
+//! Pairs of one segment that are copied to another in one go, each led to by the cdr of the one before it.
+
+ghost use Rattle.std.specs.Prelude.{◌≡◌, ◌≢◌, ℕ, [], ◌∷◌, ◌++◌, ◌+◌, ◌*◌, ◌/◌, ◌%◌, ◌<◌, ◌≤◌, Some, IfSome, IfNone, IsTrue, length, slice_index, slice_set, vec_capacity};
+ghost use Rattle.gc_words.specs.declared.value.Value.TheVariants as value;
+ghost use Rattle.gc_words.specs.declared.address.TheConstants.{THREADS};
+ghost use Rattle.gc_words.specs.Layout.{HasParts, address_of};
+ghost use Rattle.gc_words.specs.Word.{value_of};
+ghost use Rattle.segment.specs.Segments.{HasRoom, IsSound, IsStart};
+ghost use Rattle.territory.specs.Pools.{IsSettled, numbered};
+ghost use Rattle.territory.specs.FollowedSegments.{CanFollow, HasSpare, IsBetween, IsCarSweptIn, IsCdrSweptIn, IsReachedIn, IsTip, IsTrailIn, copy_at, object_at, reel, with_segment};
+
+use super::Pool;
+use super::room::SHARED_WORDS;
+use crate::following::CopyLog;
+use gc_words::{Address, Value, decode, encode};
+use segment::{Segment, Space};
+
+/// What stands in place of the word of a place where an object has none. It is the word of a number.
+const NO_PLACE: u64 = 0;
+
+/// From which segment of a thread to which one pairs are copied.
+#[derive(Clone, Copy)]
+pub struct Between {
+    pub thread: u8,
+    pub from: usize,
+    pub to: usize,
+}
+
+impl Between {
+    /// The address of start `k` of the segment from which pairs are copied.
+    #[inline(always)]
+    pub fn object(self, k: usize) -> Address
+        requires { HasParts self.thread self.from (2 * k) }
+        ensures { result ≡ object_at self k }
+    {
+        Address::at(self.thread, self.from as u64, 2 * k as u32)
+    }
+
+    /// The address of the copy at an offset of the other one.
+    #[inline(always)]
+    pub fn copy(self, offset: usize) -> Address
+        requires { HasParts self.thread self.to offset }
+        ensures { result ≡ copy_at self offset }
+    {
+        Address::at(self.thread, self.to as u64, offset as u32)
+    }
+}
+
+/// The pair that was copied last: its number of start, the offset of its copy, and how many objects were copied.
+#[derive(Clone, Copy)]
+pub struct Tip {
+    pub start: usize,
+    pub offset: usize,
+    pub count: u32,
+}
+
+/// Where following ended: at this pair, whose car was swept or was not.
+#[derive(Clone, Copy)]
+pub struct End {
+    pub tip: Tip,
+    pub car_swept: bool,
+}
+
+/// The object to which a word refers, if it refers to one.
+#[inline(always)]
+pub fn object_in(word: u64) -> Option<Address>
+    ensures some { IfSome result (λ a. value_of word ≡ Some (value.Object a)) }
+    ensures none { IfNone result ((a : ℕ) → value_of word ≡ Some (value.Object a) → ⊥) }
+{
+    match decode(word)? {
+        Value::Object(at) => Some(at),
+        _ => None,
+    }
+}
+
+/// The number of the start at an address, where that lies in this segment of a thread.
+#[inline(always)]
+fn start_at(segment: &Segment, thread: u8, number: usize, at: Address) -> Option<usize>
+    requires sound { IsSound segment.now }
+    requires size { length segment.now.words ≤ 512 }
+    ensures object { IfSome result (λ k. at ≡ address_of thread number (2 * k)) }
+    ensures start { IfSome result (IsStart segment.now) }
+    ensures small { IfSome result (λ k. k < 256) }
+{
+    if at.thread() != thread || at.segment() != number as u64 {
+        return None;
+    }
+    let offset = at.offset() as usize;
+    if segment.is_start(offset) {
+        Some(offset / 2)
+    } else {
+        None
+    }
+}
+
+/// The same, where it lies in the segment `from` and has no place.
+#[inline(always)]
+fn unplaced(from: &Segment, between: Between, at: Address, places: &[u64]) -> Option<usize>
+    requires sound { IsSound from.now }
+    requires size { length from.now.words ≡ 512 }
+    requires places { length places.now ≡ 256 }
+    ensures object { IfSome result (λ k. at ≡ object_at between k) }
+    ensures start { IfSome result (IsStart from.now) }
+    ensures unplaced { IfSome result (λ k. slice_index places.now k ≡ 0) }
+{
+    let k = start_at(from, between.thread, between.from, at)?;
+    if places[k] == NO_PLACE { Some(k) } else { None }
+}
+
+/// Copies start `k` to the top of the segment `to`, and puts its place into word `index` of the copy of `tip`. Gives the
+/// offset of the new copy.
+#[inline(always)]
+fn reach(
+    from: &Segment,
+    to: &mut Segment,
+    between: Between,
+    k: usize,
+    tip: Tip,
+    index: usize,
+    places: &mut [u64],
+    log: &mut CopyLog,
+) -> usize
+    requires between { IsBetween between from.now to.old places.old }
+    requires tip { IsTip from.now to.old tip.start tip.offset tip.count }
+    requires index { index < 2 }
+    requires start { IsStart from.now k }
+    requires unplaced { slice_index places.old k ≡ 0 }
+    requires refers { value_of (slice_index from.now.words (2 * tip.start + index)) ≡ Some (value.Object (object_at between k)) }
+    requires room { HasRoom to.old 2 }
+    ensures reached { IsReachedIn between from.now (reel to.old places.old log.old.own.items log.old.waiting.items)
+        (reel to.new places.new log.new.own.items log.new.waiting.items) tip.start tip.offset index k result }
+    ensures between { IsBetween between from.now to.new places.new }
+    ensures waiting { log.new.waiting ≡ log.old.waiting }
+    ensures top { to.new.top ≡ to.old.top + 2 }
+    ensures words { length to.new.words ≡ length to.old.words }
+    ensures copy { IsStart to.new (result / 2) }
+    ensures copies { (j : ℕ) → IsStart to.old j → IsStart to.new j }
+{
+    let (first, second) = from.two_words(k);
+    let offset = to.grow_two(first, second, from.birth(k));
+    let place = between.copy(offset);
+    let word = encode(Value::Object(place));
+    to.put(tip.offset / 2, index, word);
+    places[k] = word;
+    log.own = log.own.and(&between.object(k), &place);
+    offset
+}
+
+/// Sweeps the car of `tip`, where it refers to no object, or to a pair that can be copied now.
+#[inline(always)]
+fn sweep_car(
+    from: &Segment,
+    to: &mut Segment,
+    between: Between,
+    tip: Tip,
+    places: &mut [u64],
+    log: &mut CopyLog,
+) -> Option<Tip>
+    requires between { IsBetween between from.now to.old places.old }
+    requires tip { IsTip from.now to.old tip.start tip.offset tip.count }
+    requires spare { HasSpare to.old (length log.old.waiting.items) (vec_capacity log.old.waiting) }
+    ensures swept { IfSome result (λ t. IsCarSweptIn between from.now
+        (reel to.old places.old log.old.own.items log.old.waiting.items)
+        (reel to.new places.new log.new.own.items log.new.waiting.items) tip.start tip.offset) }
+    ensures same { IfNone result (reel to.new places.new log.new.own.items log.new.waiting.items
+        ≡ reel to.old places.old log.old.own.items log.old.waiting.items) }
+    ensures tip { IfSome result (λ t. IsTip from.now to.new t.start t.offset t.count) }
+    ensures start { IfSome result (λ t. t.start ≡ tip.start) }
+    ensures offset { IfSome result (λ t. t.offset ≡ tip.offset) }
+    ensures count { IfSome result (λ t. length log.new.own.items + tip.count ≡ length log.old.own.items + t.count) }
+    ensures between { IsBetween between from.now to.new places.new }
+    ensures spare { HasSpare to.new (length log.new.waiting.items) (vec_capacity log.new.waiting) }
+    ensures no_more { length log.new.waiting.items + to.old.top ≤ length log.old.waiting.items + to.new.top }
+    ensures words { length to.new.words ≡ length to.old.words }
+{
+    let (car, _) = from.two_words(tip.start);
+    let Some(at) = object_in(car) else {
+        return Some(tip);
+    };
+    let k = unplaced(from, between, at, places)?;
+    if !to.has_room(2) {
+        return None;
+    }
+    let offset = reach(from, to, between, k, tip, 0, places, log);
+    log.waiting
+        .push_reserved((between.object(k), between.copy(offset)));
+    Some(Tip {
+        start: tip.start,
+        offset: tip.offset,
+        count: tip.count + 1,
+    })
+}
+
+/// Takes the pair that waits last, where it and its copy lie in the two segments. Gives its number of start, and the offset
+/// of its copy.
+#[inline(always)]
+fn take_waiting(
+    from: &Segment,
+    to: &Segment,
+    between: Between,
+    log: &mut CopyLog,
+) -> Option<(usize, usize)>
+    requires from_sound { IsSound from.now }
+    requires to_sound { IsSound to.now }
+    requires from_size { length from.now.words ≤ 512 }
+    requires to_size { length to.now.words ≤ 512 }
+    ensures start { IfSome result (λ t. IsStart from.now t.0) }
+    ensures copy { IfSome result (λ t. IsStart to.now (t.1 / 2)) }
+    ensures even { IfSome result (λ t. t.1 % 2 ≡ 0) }
+    ensures waited { IfSome result (λ t.
+        log.old.waiting.items ≡ log.new.waiting.items ++ (object_at between t.0, copy_at between t.1) ∷ []) }
+    ensures capacity { vec_capacity log.new.waiting ≡ vec_capacity log.old.waiting }
+    ensures own { log.new.own ≡ log.old.own }
+    ensures same { IfNone result (log.new.waiting ≡ log.old.waiting) }
+{
+    let (object, copy) = *log.waiting.last()?;
+    let k = start_at(from, between.thread, between.from, object)?;
+    let q = start_at(to, between.thread, between.to, copy)?;
+    log.waiting.pop();
+    Some((k, 2 * q))
+}
+
+/// Sweeps the cdr of `tip`, where it refers to a pair that can be copied now, and gives that one. Where it refers to no
+/// object, the pair is swept, and the one that waits last is next.
+#[inline(always)]
+fn sweep_cdr(
+    from: &Segment,
+    to: &mut Segment,
+    between: Between,
+    tip: Tip,
+    places: &mut [u64],
+    log: &mut CopyLog,
+) -> Option<Tip>
+    requires between { IsBetween between from.now to.old places.old }
+    requires tip { IsTip from.now to.old tip.start tip.offset tip.count }
+    requires spare { HasSpare to.old (length log.old.waiting.items) (vec_capacity log.old.waiting) }
+    ensures swept { IfSome result (λ t. IsCdrSweptIn between from.now
+        (reel to.old places.old log.old.own.items log.old.waiting.items)
+        (reel to.new places.new log.new.own.items log.new.waiting.items) tip.start tip.offset t.start t.offset) }
+    ensures same { IfNone result (reel to.new places.new log.new.own.items log.new.waiting.items
+        ≡ reel to.old places.old log.old.own.items log.old.waiting.items) }
+    ensures tip { IfSome result (λ t. IsTip from.now to.new t.start t.offset t.count) }
+    ensures count { IfSome result (λ t. length log.new.own.items + tip.count ≡ length log.old.own.items + t.count) }
+    ensures between { IsBetween between from.now to.new places.new }
+    ensures spare { HasSpare to.new (length log.new.waiting.items) (vec_capacity log.new.waiting) }
+    ensures less { IfSome result (λ t.
+        length log.new.waiting.items + to.old.top < length log.old.waiting.items + to.new.top) }
+    ensures words { length to.new.words ≡ length to.old.words }
+{
+    let (_, cdr) = from.two_words(tip.start);
+    let Some(at) = object_in(cdr) else {
+        let (start, offset) = take_waiting(from, to, between, log)?;
+        return Some(Tip {
+            start,
+            offset,
+            count: tip.count,
+        });
+    };
+    let k = unplaced(from, between, at, places)?;
+    if !to.has_room(2) {
+        return None;
+    }
+    let offset = reach(from, to, between, k, tip, 1, places, log);
+    Some(Tip {
+        start: k,
+        offset,
+        count: tip.count + 1,
+    })
+}
+
+/// Follows pairs from `first` on, of which none is counted yet.
+pub(super) fn follow_from(
+    from: &Segment,
+    to: &mut Segment,
+    between: Between,
+    first: Tip,
+    places: &mut [u64],
+    log: &mut CopyLog,
+) -> End
+    requires between { IsBetween between from.now to.old places.old }
+    requires tip { IsTip from.now to.old first.start first.offset first.count }
+    requires none { first.count ≡ 0 }
+    requires spare { HasSpare to.old (length log.old.waiting.items) (vec_capacity log.old.waiting) }
+    ensures followed { IsTrailIn between from.now (reel to.old places.old log.old.own.items log.old.waiting.items)
+        first.start first.offset (reel to.new places.new log.new.own.items log.new.waiting.items)
+        result.tip.start result.tip.offset result.car_swept }
+    ensures count { length log.new.own.items ≡ length log.old.own.items + result.tip.count }
+    ensures few { result.tip.count ≤ 256 }
+{
+    let mut tip = first;
+    while let Some(swept) = sweep_car(from, to, between, tip, places, log) {
+        match sweep_cdr(from, to, between, swept, places, log) {
+            Some(next) => tip = next,
+            None => {
+                return End {
+                    tip: swept,
+                    car_swept: true,
+                };
+            }
+        }
+    }
+    End {
+        tip,
+        car_swept: false,
+    }
+}
+
+/// The same from one segment of a list to another.
+fn follow_apart(
+    segments: &mut [Segment],
+    between: Between,
+    first: Tip,
+    places: &mut [u64],
+    log: &mut CopyLog,
+) -> End
+    requires apart { between.from ≢ between.to }
+    requires from_within { between.from < length segments.old }
+    requires to_within { between.to < length segments.old }
+    requires between { IsBetween between (numbered segments.old between.from) (numbered segments.old between.to) places.old }
+    requires tip { IsTip (numbered segments.old between.from) (numbered segments.old between.to) first.start first.offset first.count }
+    requires none { first.count ≡ 0 }
+    requires spare { HasSpare (numbered segments.old between.to) (length log.old.waiting.items) (vec_capacity log.old.waiting) }
+    ensures followed { IsTrailIn between (numbered segments.old between.from)
+        (reel (numbered segments.old between.to) places.old log.old.own.items log.old.waiting.items) first.start first.offset
+        (reel (numbered segments.new between.to) places.new log.new.own.items log.new.waiting.items)
+        result.tip.start result.tip.offset result.car_swept }
+    ensures others { segments.new ≡ slice_set segments.old between.to (numbered segments.new between.to) }
+    ensures count { length log.new.own.items ≡ length log.old.own.items + result.tip.count }
+    ensures few { result.tip.count ≤ 256 }
+{
+    if between.from < between.to {
+        let (front, back) = segments.split_at_mut(between.to);
+        follow_from(
+            &front[between.from],
+            &mut back[0],
+            between,
+            first,
+            places,
+            log,
+        )
+    } else {
+        let (front, back) = segments.split_at_mut(between.from);
+        follow_from(
+            &back[0],
+            &mut front[between.to],
+            between,
+            first,
+            places,
+            log,
+        )
+    }
+}
+
+impl Pool {
+    /// Whether pairs of one segment can be copied to another one: to the open segment of its area, both of pairs alone.
+    pub fn can_follow(&self, between: Between) -> bool
+        requires settled { IsSettled self.now }
+        requires from_within { between.from < length self.now.segments }
+        requires to_within { between.to < length self.now.segments }
+        ensures { IsTrue result → CanFollow self.now between }
+    {
+        let from = &self.segments[between.from];
+        let to = &self.segments[between.to];
+        let Space::Pair = from.space() else {
+            return false;
+        };
+        let Space::Pair = to.space() else {
+            return false;
+        };
+        between.from != between.to
+            && from.words() == SHARED_WORDS
+            && to.words() == SHARED_WORDS
+            && self.areas[usize::from(to.generation())] == Some(between.to)
+    }
+
+    /// Follows pairs of one segment from start `k` on, of which a copy stands at an offset of the other one: as long as
+    /// that has room, and what is referred to lies in the first one and has no place.
+    pub fn follow(
+        &mut self,
+        between: Between,
+        k: usize,
+        offset: usize,
+        places: &mut [u64],
+        log: &mut CopyLog,
+    ) -> End
+        requires settled { IsSettled self.old }
+        requires can { CanFollow self.old between }
+        requires thread { between.thread < THREADS }
+        requires start { IsStart (numbered self.old.segments between.from) k }
+        requires copy { IsStart (numbered self.old.segments between.to) (offset / 2) }
+        requires even { offset % 2 ≡ 0 }
+        requires places { length places.old ≡ 256 }
+        requires spare { length log.old.waiting.items + 256 ≤ vec_capacity log.old.waiting }
+        ensures followed { IsTrailIn between (numbered self.old.segments between.from)
+            (reel (numbered self.old.segments between.to) places.old log.old.own.items log.old.waiting.items) k offset
+            (reel (numbered self.new.segments between.to) places.new log.new.own.items log.new.waiting.items)
+            result.tip.start result.tip.offset result.car_swept }
+        ensures others { self.new ≡ with_segment self.old between.to (numbered self.new.segments between.to) }
+        ensures count { length log.new.own.items ≡ length log.old.own.items + result.tip.count }
+        ensures few { result.tip.count ≤ 256 }
+    {
+        let first = Tip {
+            start: k,
+            offset,
+            count: 0,
+        };
+        follow_apart(&mut self.segments, between, first, places, log)
+    }
+}
