@@ -1,6 +1,6 @@
 //! The from-segment that was looked at last: objects that lie near one another need one look-up.
 
-ghost use Rattle.std.specs.Prelude.{◌≡◌, ◌+◌, ◌^◌, ◌≤◌, IfSome};
+ghost use Rattle.std.specs.Prelude.{◌≡◌, ◌+◌, ◌^◌, ◌≤◌, IfSome, Some};
 ghost use Rattle.gc_words.specs.Layout.{segment_of, thread_of};
 ghost use Rattle.territory.specs.Finishing.{target_of};
 ghost use Rattle.directory.specs.Directories.{DirectoryView, found_at};
@@ -50,6 +50,7 @@ impl Directory {
         requires near { IsNear self.now near.old }
         ensures near { IsNear self.now near.new }
         ensures value { result ≡ entry_at self.now.tables (thread_of at) (segment_of at) }
+        ensures from { IfSome result (λ from. near.new.from ≡ from) }
         ensures target { IfSome result (λ from. near.new.target ≡ target_of self.now.targets from.generation) }
         ensures range { IfSome result (λ from. near.new.target ≤ 8) }
         ensures fits { IfSome result (λ from. from.first_word + run_of from.size ≤ 2 ^ 64) }
@@ -71,12 +72,13 @@ impl Directory {
     }
 
     /// What `find` tells of an address, where the from-segment that was looked at last is looked at first.
-    /// Where something is found, its objects go to the target of `near`.
+    /// Where something is found, it lies in the from-segment of `near` then, and goes to its target.
     #[inline(always)]
     pub fn find_near(&self, near: &mut Near, at: Address) -> Option<Found>
         requires near { IsNear self.now near.old }
         ensures near { IsNear self.now near.new }
         ensures value { result ≡ found_at self.now at }
+        ensures from { IfSome result (λ f. entry_at self.now.tables (thread_of at) (segment_of at) ≡ Some near.new.from) }
         ensures target { IfSome result (λ f. near.new.target ≡ target_of self.now.targets f.generation) }
         ensures range { IfSome result (λ f. near.new.target ≤ 8) }
     {

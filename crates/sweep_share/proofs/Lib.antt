@@ -3,4 +3,5 @@ pub mod Putting
 pub mod Copying
 pub mod Numbers
 pub mod Raising
+pub mod Following
 pub mod EachOfThem

@@ -1,16 +1,17 @@
 //! The share of a sweeper.
 
-ghost use Rattle.std.specs.Prelude.{◌≡◌, ◌≢◌, ◌/◌, ◌%◌, ◌<◌, ◌≤◌, ◌↔◌, IfNone, IfOk, IfSome, IsSome, IsTrue, length, replicate};
+ghost use Rattle.std.specs.Prelude.{◌≡◌, ◌≢◌, ◌+◌, ◌/◌, ◌%◌, ◌<◌, ◌≤◌, ◌↔◌, IfNone, IfOk, IfSome, IsSome, IsTrue, length, replicate};
 ghost use Rattle.trace_types.specs.declared.kind.Kind.TheVariants.{Pair};
 ghost use Rattle.gc_mail.specs.Recipients.{owner};
 ghost use Rattle.gc_words.specs.Layout.{thread_of};
 ghost use Rattle.territory.specs.Territories.{words_of};
 ghost use Rattle.sweep_share.specs.Shares.{AreFinished, AreIndicesOf, AreRaised, AreShareOf, IsCopied, IsPairOf, IsPut, IsRaised, IsShare, start_in, territory_at, territory_of};
+ghost use Rattle.sweep_share.specs.Following.{HasTrail, IsPairIn, IsTrail, IsTrailEnd, share_trail};
 
 use gc_words::Address;
 use std::alloc::{AllocError, Global};
 use std::marker::Model;
-use territory::Territory;
+use territory::{CopyLog, Followed, Territory};
 use trace_types::Kind;
 
 /// What stands in place of an index where a thread is another sweeper's. An index is below 64.
@@ -236,6 +237,41 @@ impl Share {
         let i = self.index(at);
         let place = self.territories[i].copy(at, generation)?;
         Ok(place)
+    }
+
+    /// Goes from pair to pair in one from-segment, from one on whose copy is known, as far as it can, as the territory's
+    /// `follow` does. A field is swept where it refers to no object, or to a pair in the same segment that has no place
+    /// yet, which is copied then. Where a cdr refers to no object, the pair that waits last may be taken. `places` has for
+    /// each two words of the segment the word of the place of what starts there, or 0; the copies, and what waits to be
+    /// swept, go to `log`. Takes memory. Err where it is refused, or where a `u64` doesn't count so many copies: what was
+    /// copied until then is right.
+    #[inline(always)]
+    pub fn follow(
+        &mut self,
+        object: Address,
+        copy: Address,
+        places: &mut [u64],
+        log: &mut CopyLog,
+    ) -> Result<Followed, AllocError>
+        requires object { IsPairIn self.old object }
+        requires copy { IsPairIn self.old copy }
+        requires thread { thread_of copy ≡ thread_of object }
+        requires places { length places.old ≡ 256 }
+        requires count { log.old.count ≡ length log.old.own.items }
+        ensures trail { IfOk result (λ e. IfSome (start_in self.old copy) (λ y. IsTrail y.generation
+            (share_trail self.old places.old log.old.own.items log.old.waiting.items) object copy
+            (share_trail self.new places.new log.new.own.items log.new.waiting.items) e.object e.copy e.car_swept)) }
+        ensures ends { IfOk result (λ e. IsTrailEnd
+            (share_trail self.new places.new log.new.own.items log.new.waiting.items) e.object e.car_swept) }
+        ensures anyhow { IfSome (start_in self.old copy) (λ y. HasTrail y.generation
+            (share_trail self.old places.old log.old.own.items log.old.waiting.items) object copy
+            (share_trail self.new places.new log.new.own.items log.new.waiting.items)) }
+        ensures count { log.new.count ≡ length log.new.own.items }
+        ensures places { length places.new ≡ 256 }
+    {
+        let i = self.index(object);
+        let followed = self.territories[i].follow(object, copy, places, log)?;
+        Ok(followed)
     }
 
     /// Ends the collection in each of its territories, with nothing kept in place, and gives them, in the same order.
