@@ -10,7 +10,7 @@ use Rattle.gc_words.specs.Word.{value_of}
 use Rattle.directory.specs.Directories.{DirectoryView, HasOwnWords, IsWithin, TellsApart, start_of, word_in}
 use Rattle.directory.specs.declared.table.FromSegment.{FromSegment}
 use Rattle.sweep_model.specs.Hands.{IsAbsent, forwarded_at}
-use Rattle.sweep_places.specs.Places.{ArePlaces, IsOwnStart, PlacesView}
+use Rattle.sweep_places.specs.Places.{ArePlaces, HasPlace, IsOwnStart, PlacesView}
 
 -- what is known is there
 is_some : (o : Option FromSegment) (x : FromSegment) → o ≡ Some x → IsSome o
@@ -40,7 +40,7 @@ more : (own : List (ℕ × ℕ)) (f : ℕ × ℕ) → length (own ++ f ∷ []) �
 more own f = length-append own (f ∷ [])
 
 -- no place
-zero_is : (q : ℕ) → value_of 0 ≡ Some (Object q) → ⊥
+pub zero_is : (q : ℕ) → value_of 0 ≡ Some (Object q) → ⊥
 unfolding value_of
 zero_is q e = cc
 
@@ -67,15 +67,28 @@ module _ (d : DirectoryView) (k first : ℕ) (table : List ℕ) (own : List (ℕ
       none (forwarded_at own n).1
       (ap (λ b. value_of (get_or table (word_in d b - first) 0)) (sym same) ∙ places.noted n h)
 
-  -- ... and a place is that of the object's pair
+  -- a place is that of the object's pair
+  its_object : (q : ℕ) (at : HasPlace d own (first + (word_in d a - first)) q) → (forwarded_at own at.index).0 ≡ a
+  its_object q at =
+      places.apart (forwarded_at own at.index).0 a (places.starts at.index at.below).start start.start
+      (omega (arith, at.word_is, (first_below a start).0))
+
+  -- ... which is among the pairs
   pub is_place : (q : ℕ) → value_of (get_or table (word_in d a - first) 0) ≡ Some (Object q) → Contains own (a, q)
   is_place q e =
       let at = places.shown (word_in d a - first) q e in
-      let is_a : (forwarded_at own at.index).0 ≡ a =
-      places.apart (forwarded_at own at.index).0 a (places.starts at.index at.below).start start.start
-      (omega (arith, at.word_is, (first_below a start).0)) in
+      let is_a : (forwarded_at own at.index).0 ≡ a = its_object q at in
       let found : Contains own (forwarded_at own at.index) = Contains-get_or own at.index (0, 0) at.below in
       subst (λ x. Contains own (x, q)) is_a (subst (λ y. Contains own ((forwarded_at own at.index).0, y)) at.place_is found)
+
+  -- an object that was not forwarded has no place
+  pub is_zero : IsAbsent own a → get_or table (word_in d a - first) 0 ≡ 0
+  is_zero absent = elim (places.words (word_in d a - first)) [
+    | inl none ↦ none
+    | inr place ↦
+        let at = places.shown (word_in d a - first) place.0 place.1 in
+        absurd (absent at.index at.below (its_object place.0 at))
+  ]
 
   -- another place noted
   pub noted : (p word : ℕ) → IsAbsent own a → value_of word ≡ Some (Object p)
@@ -91,16 +104,22 @@ module _ (d : DirectoryView) (k first : ℕ) (table : List ℕ) (own : List (ℕ
       | inr ne ↦ let below : n < length own = omega (arith, h, more own (a, p), ne) in
           subst (λ f. IsOwnStart d k f.0) (sym (old_pair own (a, p) n below)) (places.starts n below)
     ];
+    words = λ w. elim (cases_eq w entry) [
+      | inl same ↦ inr (p, put w same)
+      | inr ne ↦
+          let other : get_or (set table entry word) w 0 ≡ get_or table w 0 = get_or-set_other table entry w word 0 ne in
+          elim (places.words w) [
+            | inl none ↦ inl (other ∙ none)
+            | inr place ↦ inr (place.0, ap value_of other ∙ place.1)
+          ]
+    ];
     shown = λ w q e. elim (cases_eq w entry) [
       | inl same ↦
-          let put : value_of (get_or (set table entry word) w 0) ≡ Some (Object p) =
-          ap (λ j. value_of (get_or (set table entry word) j 0)) same
-          ∙ (ap value_of (get_or-set_same table entry word 0 inside) ∙ is) in
           record {
             index = length own;
             below = omega (arith, more own (a, p));
             word_is = ap (λ f. word_in d f.0) (new_pair own (a, p)) ∙ omega (arith, same, (first_below a start).0);
-            place_is = ap (λ f. f.1) (new_pair own (a, p)) ∙ object_is p q (sym put ∙ e);
+            place_is = ap (λ f. f.1) (new_pair own (a, p)) ∙ object_is p q (sym (put w same) ∙ e);
           }
       | inr ne ↦
           let was = places.shown w q (ap value_of (sym (get_or-set_other table entry w word 0 ne)) ∙ e) in
@@ -131,6 +150,11 @@ module _ (d : DirectoryView) (k first : ℕ) (table : List ℕ) (own : List (ℕ
       inside : entry < length table
       inside = omega (arith, (first_below a start).0, (first_below a start).1)
 
+      put : (w : ℕ) → w ≡ entry → value_of (get_or (set table entry word) w 0) ≡ Some (Object p)
+      put w same =
+          ap (λ j. value_of (get_or (set table entry word) j 0)) same
+          ∙ (ap value_of (get_or-set_same table entry word 0 inside) ∙ is)
+
 zeros : (count w : ℕ) → get_or (replicate {A = ℕ} count 0) w 0 ≡ 0
 zeros count w = elim (cases_lt w count) [
   | inl below ↦ get_or-replicate count w 0 0 below
@@ -147,6 +171,7 @@ none_noted d number first count number_in first_is size within apart = record {
   within = within;
   apart = apart;
   starts = λ n h. absurd (omega (arith, h));
+  words = λ w. inl (zeros count w);
   shown = λ w q e. absurd (zero_is q (ap value_of (sym (zeros count w)) ∙ e));
   noted = λ n h. absurd (omega (arith, h));
 }

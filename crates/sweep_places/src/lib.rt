@@ -7,8 +7,8 @@
 //!
 //! For contracts it is the number of the sweeper, the directory, the list of pairs of an object and its new place in the
 //! order of forwarding, and the pairs that are not swept yet. Invariant: the table has the place of each pair of the list
-//! at the word of its object, and no other place. `new` and `note` take memory. A table of places beside the from-space
-//! is this project's own; Chez Scheme leaves forwarding marks in the old objects.
+//! at the word of its object, and no other place. `new`, `note` and `follow` take memory. A table of places beside the
+//! from-space is this project's own; Chez Scheme leaves forwarding marks in the old objects.
 #![tactic(auto)]
 
 mod places;

@@ -1,19 +1,30 @@
 //! The places of a sweeper's own objects.
 
-ghost use Rattle.std.specs.Prelude.{◌≡◌, ◌+◌, ◌^◌, ◌<◌, [], ◌∷◌, ◌++◌, Contains, IfNone, IfOk, IfSome, MatchOption, OnErr, OnOk, length, replicate};
+ghost use Rattle.std.specs.Prelude.{◌≡◌, ◌+◌, ◌^◌, ◌<◌, ◌≤◌, [], ◌∷◌, ◌++◌, Contains, IfNone, IfOk, IfSome, MatchOption, OnErr, OnOk, length, replicate, Some};
 ghost use Rattle.directory.specs.Directories.{sweeper_count, word_in};
 ghost use Rattle.sweep_model.specs.Hands.{IsAbsent};
+ghost use Rattle.directory.specs.Tables.{entry_at};
+ghost use Rattle.gc_words.specs.Layout.{segment_of, thread_of};
+ghost use Rattle.sweep_share.specs.Following.{IsPairIn, share_trail};
+ghost use Rattle.sweep_share.specs.Following.{HasTrail as HasShareTrail, IsTrail as IsShareTrail, IsTrailEnd as IsShareTrailEnd};
+ghost use Rattle.sweep_share.specs.Shares.{start_in};
+ghost use Rattle.sweep_places.specs.Following.{HasTrail, IsOneSweep, IsTrail, IsTrailEnd, part_at, sweep_of, with_part};
 ghost use Rattle.sweep_places.specs.Places.{IsOwnStart};
 
-use directory::Directory;
+use directory::{Directory, FromSegment};
 use gc_words::{Address, Value, decode, encode};
 use http_server::Log;
 use std::alloc::{AllocError, Global};
 use std::marker::Model;
 use std::snapshot::Snapshot;
+use sweep_share::Share;
+use territory::{CopyLog, Followed};
 
 /// What the table has for an object that was not forwarded. It is the word of a number.
 const NO_PLACE: u64 = 0;
+
+/// How many entries a from-segment of 512 words has: an object may start at each even offset.
+const ENTRIES: usize = 256;
 
 /// A table of places by word, and what is not swept.
 #[derive(Drop)]
@@ -24,12 +35,9 @@ pub struct Places {
     first: usize,
     /// For each word of the range what a field that referred to its object is to hold, or `NO_PLACE`.
     table: Vec<u64>,
-    /// How many objects were forwarded.
-    count: u64,
-    /// The objects that are not swept, with their places, in the order of forwarding.
-    unswept: Vec<(Address, Address)>,
-    /// All objects with their places, in the order of forwarding. Contracts alone read it: it takes no memory.
-    own: Log<Address, Address>,
+    /// All objects that were forwarded, with their places, in that order; how many they are; and those of them that wait to
+    /// be swept.
+    log: CopyLog,
 }
 
 impl Model for Places {
@@ -41,12 +49,12 @@ impl Model for Places {
     ghost view = { λ p. record {
       number = p.number;
       directory = p.directory.value;
-      own = p.own.items;
-      unswept = p.unswept.items;
+      own = p.log.own.items;
+      unswept = p.log.waiting.items;
     } };
 
-    ghost invariant = { λ p. ArePlaces p.directory.value p.number p.first p.table.items p.own.items
-        × (p.count ≡ length p.own.items) };
+    ghost invariant = { λ p. ArePlaces p.directory.value p.number p.first p.table.items p.log.own.items
+        × (p.log.count ≡ length p.log.own.items) };
 }
 
 /// A table of objects that were not forwarded.
@@ -64,6 +72,35 @@ fn one_more(count: u64) -> Result<u64, AllocError>
     count.checked_add(1).ok_or(AllocError)
 }
 
+/// Goes from pair to pair as the share's `follow` does, by the entries of the from-segment alone: those from one on.
+#[inline(always)]
+fn follow_at(
+    share: &mut Share,
+    object: Address,
+    copy: Address,
+    table: &mut [u64],
+    entry: usize,
+    log: &mut CopyLog,
+) -> Result<Followed, AllocError>
+    requires object { IsPairIn share.old object }
+    requires copy { IsPairIn share.old copy }
+    requires thread { thread_of copy ≡ thread_of object }
+    requires inside { entry + 256 ≤ length table.old }
+    requires count { log.old.count ≡ length log.old.own.items }
+    ensures trail { IfOk result (λ e. IfSome (start_in share.old copy) (λ y. IsShareTrail y.generation
+        (share_trail share.old (part_at table.old entry) log.old.own.items log.old.waiting.items) object copy
+        (share_trail share.new (part_at table.new entry) log.new.own.items log.new.waiting.items) e.object e.copy e.car_swept)) }
+    ensures ends { IfOk result (λ e. IsShareTrailEnd
+        (share_trail share.new (part_at table.new entry) log.new.own.items log.new.waiting.items) e.object e.car_swept) }
+    ensures anyhow { IfSome (start_in share.old copy) (λ y. HasShareTrail y.generation
+        (share_trail share.old (part_at table.old entry) log.old.own.items log.old.waiting.items) object copy
+        (share_trail share.new (part_at table.new entry) log.new.own.items log.new.waiting.items)) }
+    ensures around { table.new ≡ with_part table.old entry (part_at table.new entry) }
+    ensures count { log.new.count ≡ length log.new.own.items }
+{
+    share.follow(object, copy, &mut table[entry..entry + ENTRIES], log)
+}
+
 impl Places {
     /// Places of which none is known yet, for a sweeper of this directory. Takes memory for each of its words.
     pub fn new(alloc: Global, directory: &Directory, number: u32) -> Result<Places, AllocError>
@@ -77,9 +114,11 @@ impl Places {
             directory: Snapshot::of(directory),
             first,
             table,
-            count: 0,
-            unswept: Vec::new(alloc),
-            own: Log::new(),
+            log: CopyLog {
+                own: Log::new(),
+                count: 0,
+                waiting: Vec::new(alloc),
+            },
         })
     }
 
@@ -87,7 +126,7 @@ impl Places {
     pub fn len(&self) -> u64
         ensures { result ≡ length self.now.own }
     {
-        self.count
+        self.log.count
     }
 
     /// The place of an object of its own, of which `word` is the word in the directory. None exactly where it was not
@@ -113,10 +152,10 @@ impl Places {
         requires count { count ≡ length self.old.own + 1 }
         ensures { self.new ≡ record self.old { own = self.old.own ++ (at, place) ∷ [] } }
     {
-        self.own = self.own.and(&at, &place);
+        self.log.own = self.log.own.and(&at, &place);
         let entry = word - self.first;
         self.table[entry] = encode(Value::Object(place));
-        self.count = count;
+        self.log.count = count;
     }
 
     /// Notes the place of an object of its own, which was not forwarded before and is to be swept. Err where memory is
@@ -133,8 +172,8 @@ impl Places {
         ensures few { OnOk result (length self.old.own + 1 < 2 ^ 64) }
         ensures err { OnErr result (self.new ≡ self.old) }
     {
-        let count = one_more(self.count)?;
-        self.unswept.push((at, place))?;
+        let count = one_more(self.log.count)?;
+        self.log.waiting.push((at, place))?;
         self.enter(at, word, place, count);
         Ok(())
     }
@@ -150,9 +189,41 @@ impl Places {
         ensures few { OnOk result (length self.old.own + 1 < 2 ^ 64) }
         ensures err { OnErr result (self.new ≡ self.old) }
     {
-        let count = one_more(self.count)?;
+        let count = one_more(self.log.count)?;
         self.enter(at, word, place, count);
         Ok(())
+    }
+
+    /// Goes from pair to pair in one from-segment of 512 words, from one on whose copy is known, as far as it can: each
+    /// object that is copied on the way is forwarded, and what a car refers to is to be swept. Where a cdr refers to no
+    /// object, the one that was forwarded last of those that are not swept may be taken. It ends exactly where a cdr
+    /// refers to no pair of the from-segment that was not forwarded, or a car to another object. Takes memory. Err where
+    /// it is refused, or where there would be more objects than a `u64` counts: what was forwarded until then is right.
+    #[inline(always)]
+    pub fn follow(
+        &mut self,
+        share: &mut Share,
+        object: Address,
+        copy: Address,
+        from: FromSegment,
+    ) -> Result<Followed, AllocError>
+        requires one { IsOneSweep share.old self.old }
+        requires from { entry_at self.old.directory.tables (thread_of object) (segment_of object) ≡ Some from }
+        requires shared { from.size ≡ 512 }
+        requires object { IsPairIn share.old object }
+        requires copy { IsPairIn share.old copy }
+        requires thread { thread_of copy ≡ thread_of object }
+        ensures trail { IfOk result (λ e. IfSome (start_in share.old copy) (λ y. IsTrail y.generation
+            (sweep_of share.old self.old) object copy (sweep_of share.new self.new) e.object e.copy e.car_swept)) }
+        ensures ends { IfOk result (λ e. IsTrailEnd (sweep_of share.new self.new) e.object e.car_swept) }
+        ensures anyhow { IfSome (start_in share.old copy) (λ y. HasTrail y.generation
+            (sweep_of share.old self.old) object copy (sweep_of share.new self.new)) }
+    {
+        let entry = from.first_word - self.first;
+        let followed = follow_at(share, object, copy, &mut self.table, entry, &mut self.log);
+        // A `u64` counts the objects.
+        let _count = self.log.count;
+        followed
     }
 
     /// Takes the object that was forwarded last of those that are not swept, with its place, to be swept. None exactly
@@ -164,6 +235,6 @@ impl Places {
         ensures same { IfNone result (self.new ≡ self.old) }
         ensures rest { self.new ≡ record self.old { unswept = self.new.unswept } }
     {
-        self.unswept.pop()
+        self.log.waiting.pop()
     }
 }

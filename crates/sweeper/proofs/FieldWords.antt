@@ -1,7 +1,6 @@
 -- What the words of an object ask for.
-use Rattle.std.proofs.Common.{◌≡◌, ℕ, ◌+◌, ◌<◌, ◌≤◌, true, cond, List, length, slice_index, Option, None, Some, IfNone, IfSome, ap, ◌∙◌, inl, inr, arith}
+use Rattle.std.proofs.Common.{◌≡◌, ℕ, ◌<◌, ◌≤◌, true, cond, length, slice_index, Option, None, Some, IfNone, IfSome, ap, ◌∙◌, arith}
 use Rattle.std.specs.Prelude.{is_some}
-use Rattle.std.proofs.lemmas.Bool.{cases_eq}
 use Rattle.gc_words.specs.Word.{value_of}
 use Rattle.segment.specs.Segments.{Start}
 use Rattle.territory.specs.Territories.{words_of}
@@ -29,19 +28,10 @@ pub lies_aside : (d : DirectoryView) (word t : ℕ) (f : Found) → object_in (v
 lies_aside d word t f e is =
     ap (if_aside d) e ∙ ap (λ o. cond (is_some o) (Some t) None) (found_some d t f is).lies
 
--- one word more that asks for nothing
-pub none_more : (d : DirectoryView) (words : List ℕ) (from index : ℕ)
-    → ((i : ℕ) → from ≤ i → i < index → asked_by d (slice_index words i) ≡ None) → asked_by d (slice_index words index) ≡ None
-    → (i : ℕ) → from ≤ i → i < index + 1 → asked_by d (slice_index words i) ≡ None
-none_more d words from index none one i a b = elim (cases_eq i index) [
-  | inl e ↦ ap (λ n. asked_by d (slice_index words n)) e ∙ one
-  | inr ne ↦ none i a (omega (arith, b, ne))
-]
-
 -- ---- the words of an object
 
 -- a strong field asks for what its word asks for
-asked_word : (d : DirectoryView) (s : Start) (i : ℕ) → is_strong s.kind i ≡ true
+pub asked_word : (d : DirectoryView) (s : Start) (i : ℕ) → is_strong s.kind i ≡ true
     → asked_in d (Some s) i ≡ asked_by d (slice_index s.words i)
 asked_word d s i e = ap (λ b. if_aside d (object_in (cond b (value_of (slice_index s.words i)) None))) e
 

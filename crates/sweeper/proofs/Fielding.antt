@@ -1,8 +1,7 @@
 -- What a field asks for, as the code finds it.
-use Rattle.std.proofs.Common.{◌≡◌, ℕ, ◌≤◌, Bool, true, false, List, [], ◌∷◌, ◌++◌, None, Some, IsTrue, sym, ap, subst, ◌∙◌, arith}
+use Rattle.std.proofs.Common.{◌≡◌, ℕ, Bool, true, false, List, [], ◌∷◌, ◌++◌, Some, IsTrue, sym, ap, subst, ◌∙◌}
 use Rattle.std.proofs.lemmas.Bool.{false≢true}
-use Rattle.std.proofs.lemmas.Option.{none-some, same_Some}
-use Rattle.segment.specs.Segments.{Start}
+use Rattle.std.proofs.lemmas.Option.{same_Some}
 use Rattle.gc_mail.specs.declared.message.Message.{Message}
 use Rattle.gc_mail.specs.declared.message.Message.TheVariants as message
 use Rattle.gc_mail.specs.declared.message.Slot.TheVariants as back
@@ -10,20 +9,20 @@ use Rattle.gc_mail.specs.Recipients.{owner}
 use Rattle.territory.specs.Finishing.{target_of}
 use Rattle.directory.specs.declared.table.FromSegment.{FromSegment}
 use Rattle.directory.specs.declared.directory.Found.{Found}
-use Rattle.directory.specs.Directories.{DirectoryView, found_at, from_at, word_in}
-use Rattle.directory.proofs.Finding.{found_none, found_some}
+use Rattle.directory.specs.Directories.{DirectoryView, found_at, from_at}
+use Rattle.directory.proofs.Finding.{found_some}
 use Rattle.sweep_share.specs.Shares.{start_in}
-use Rattle.sweeper.specs.Sweepers.{CanKeep, FieldDone, GoesTo, IsForeign, IsKept, IsOwn, Puts, SweeperView, asked_in, sends}
+use Rattle.sweeper.specs.Sweepers.{CanKeep, FieldDone, IsForeign, IsKept, IsOwn, Puts, SweeperView, asked_in, sends}
 
 -- ---- what the directory told
 
--- of what lies in a from-segment it told the generation and the word
-pub found_is : (d : DirectoryView) (t : ℕ) (from : FromSegment) (found : Found) → from_at d t ≡ Some from
-    → found_at d t ≡ Some found → (found.generation ≡ from.generation) × (found.word ≡ word_in d t)
+-- of what lies in a from-segment it told the generation
+found_is : (d : DirectoryView) (t : ℕ) (from : FromSegment) (found : Found) → from_at d t ≡ Some from
+    → found_at d t ≡ Some found → found.generation ≡ from.generation
 found_is d t from found lies is =
     let there = found_some d t found is in
     let same : there.from ≡ from = same_Some _ _ (sym there.lies ∙ lies) in
-    (there.generation ∙ ap (λ (f : FromSegment). f.generation) same, there.word)
+    there.generation ∙ ap (λ (f : FromSegment). f.generation) same
 
 -- so the generation to which it goes
 pub goes_to_target : (v : SweeperView) (d : DirectoryView) (t refers : ℕ) (found : Found) (c : CanKeep v t)
@@ -32,32 +31,7 @@ pub goes_to_target : (v : SweeperView) (d : DirectoryView) (t refers : ℕ) (fou
 goes_to_target v d t refers found c same is target =
     let lies : from_at d t ≡ Some c.from = ap (λ z. from_at z t) (sym same) ∙ c.lies in
     target ∙ ap (λ (z : DirectoryView). target_of z.targets found.generation) (sym same)
-    ∙ ap (target_of v.places.directory.targets) ((found_is d t c.from found lies is).0 ∙ c.same)
-
-pub goes_there : (v : SweeperView) (d : DirectoryView) (t refers : ℕ) (found : Found) → CanKeep v t
-    → v.places.directory ≡ d → found_at d t ≡ Some found → refers ≡ target_of d.targets found.generation → GoesTo v t refers
-goes_there v d t refers found c same is target s here =
-    goes_to_target v d t refers found c same is target
-    ∙ ap (λ (z : Start). target_of v.places.directory.targets z.generation) (same_Some _ _ (sym c.here ∙ here))
-
--- ... and its word
-pub word_there : (v : SweeperView) (d : DirectoryView) (t : ℕ) (found : Found) → CanKeep v t → v.places.directory ≡ d
-    → found_at d t ≡ Some found → found.word ≡ word_in v.places.directory t
-word_there v d t found c same is =
-    (found_is d t c.from found (ap (λ z. from_at z t) (sym same) ∙ c.lies) is).1 ∙ ap (λ z. word_in z t) (sym same)
-
--- it is of a collected generation
-pub young_there : (v : SweeperView) (d : DirectoryView) (t : ℕ) (found : Found) → CanKeep v t → v.places.directory ≡ d
-    → found_at d t ≡ Some found → found.generation ≤ d.targets.cg
-young_there v d t found c same is =
-    let g = (found_is d t c.from found (ap (λ z. from_at z t) (sym same) ∙ c.lies) is).0 ∙ c.same in
-    let cg = ap (λ (z : DirectoryView). z.targets.cg) same in
-    omega (arith, g, cg, c.young)
-
--- what may be kept is told of
-pub told_there : (v : SweeperView) (d : DirectoryView) (t : ℕ) → CanKeep v t → v.places.directory ≡ d → found_at d t ≡ None → ⊥
-told_there v d t c same none =
-    none-some _ (sym (found_none d t none) ∙ (ap (λ z. from_at z t) (sym same) ∙ c.lies))
+    ∙ ap (target_of v.places.directory.targets) (found_is d t c.from found lies is ∙ c.same)
 
 -- ---- what a field becomes
 

@@ -1,5 +1,5 @@
 -- What keeping an object and putting a place do to a sweeper.
-use Rattle.std.proofs.Common.{◌≡◌, ℕ, ◌+◌, ◌^◌, ◌<◌, ◌≤◌, Bool, true, false, [], ◌∷◌, ◌++◌, length, Option, None, Some, IsSome, IfSome, IsTrue, refl, sym, ap, subst, ◌∙◌, inl, inr, arith, length-append}
+use Rattle.std.proofs.Common.{◌≡◌, ℕ, ◌+◌, ◌^◌, ◌<◌, ◌≤◌, Bool, true, false, [], ◌∷◌, ◌++◌, length, Option, None, Some, IsSome, IsTrue, refl, sym, ap, subst, ◌∙◌, inl, inr, arith, length-append}
 use Rattle.std.specs.Prelude.{is_some}
 use Rattle.std.proofs.lemmas.Bool.{false≢true}
 use Rattle.std.proofs.lemmas.Bool.Decides.{nat_tests}
@@ -23,10 +23,6 @@ use Rattle.sweeper.specs.Sweepers.{CanKeep, Copies, GoesTo, HasField, IsJoined, 
 -- a collected generation goes to its target
 pub goes_target : (targets : Targets) (g : ℕ) → g ≤ targets.cg → goes_to targets g ≡ target_of targets g
 goes_target targets g h = grind (arith, nat_tests)
-
--- what is said of the from-segment, where it is known
-pub if_from : (o : Option FromSegment) (P : FromSegment → Type 0) (f : FromSegment) → o ≡ Some f → IfSome o P → P f
-if_from o P f e h = subst (λ v. IfSome v P) e h
 
 -- the parts are of one sweeper still
 pub joined_share : (v : SweeperView) (share : ShareView) → IsJoined v → IsAlike v.share share → IsJoined (record v { share = share })

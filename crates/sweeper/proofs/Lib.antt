@@ -16,6 +16,9 @@ pub mod Rounds
 pub mod SweptFields
 pub mod InHand
 pub mod SweptPairs
+pub mod HalfPairs
+pub mod FollowedPairs
+pub mod FollowedEnds
 pub mod Asked
 pub mod AskedRoots
 pub mod AskedOlds

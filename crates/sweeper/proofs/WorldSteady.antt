@@ -78,11 +78,6 @@ joined_on a b joined steady = record {
   register_count = steady.register_count ∙ joined.register_count ∙ sym steady.alike.sweepers;
 }
 
--- the number stays, and how many sweepers there are
-pub same_number : (a b : SweeperView) → IsSteady a b
-    → (b.share.number ≡ a.share.number) × (b.share.sweepers ≡ a.share.sweepers)
-same_number a b steady = (steady.alike.number, steady.alike.sweepers)
-
 -- ---- where objects go
 
 -- what is collected goes where the directory says

@@ -18,7 +18,9 @@ use Rattle.sweep_model.specs.Holding.{Goes, in_standing}
 use Rattle.sweep_model.specs.Wholes.{IsReady, MayCome}
 use Rattle.sweep_share.specs.Shares.{AreSound, is_aside}
 use Rattle.sweep_share.specs.Registers.{register_in}
-use Rattle.sweeper.specs.Sweepers.{CanKeep, IsJoined, IsKept, IsSteady, SweeperView, Writes, hand_of, sends}
+use Rattle.sweeper.specs.declared.lists.BegunPair.{BegunPair}
+use Rattle.sweeper.specs.declared.lists.NextPair.{NextPair}
+use Rattle.sweeper.specs.Sweepers.{CanKeep, IsHalfway, IsJoined, IsKept, IsSteady, SweeperView, Writes, hand_of, in_hand, left_of, sends}
 
 -- ---- cards
 
@@ -116,3 +118,17 @@ pub data Answered (v v' : SweeperView) (t : ℕ) (b : Slot) : Type 0 where
       → IsKept v mid t q → Writes mid v' b q (target_of v.places.directory.targets c.start.generation) → Answered v v' t b
   IsTold : (q : ℕ) (mid : SweeperView) → holder_of v.share.sweepers b ≢ v.share.number
       → IsKept v mid t q → v' ≡ sends mid (message.Moved b q) → Answered v v' t b
+
+-- the pair is in hand, and the sweeper was ready before its car was swept, or is
+pub record HasBegun (v : SweeperView) (b : BegunPair) : Type 0 where
+  pub before : SweeperView
+  pub ready : Ready (in_hand before b.pair.object b.pair.copy)
+  pub halfway : IsHalfway before v b
+
+-- From the pair in hand it went on to another one, whose car was swept then, or was not.
+pub record ComesTo (old new : SweeperView) (first : NextPair) (b : BegunPair) : Type 0 where
+  pub before : SweeperView
+  pub runs : Runs (in_hand old first.object first.copy) (in_hand before b.pair.object b.pair.copy)
+  pub halfway : IsHalfway before new b
+  pub directory : before.places.directory ≡ old.places.directory
+  pub most : left_of (in_hand before b.pair.object b.pair.copy) ≤ left_of (in_hand old first.object first.copy)

@@ -4,6 +4,7 @@ use Rattle.gc_words.specs.declared.value.Value.TheVariants as value
 use Rattle.gc_words.specs.Word.{value_of}
 use Rattle.segment.specs.Segments.{Start}
 use Rattle.territory.specs.Copies.{RefersToNoneBelow}
+use Rattle.territory.specs.Following.{IfSwept}
 use Rattle.territory.specs.Territories.{words_of}
 use Rattle.gc_mail.specs.declared.message.Message.{Message}
 use Rattle.gc_mail.specs.declared.message.Message.TheVariants as message
@@ -19,6 +20,7 @@ use Rattle.sweep_share.specs.Shares.{AreSound, IsAlike, IsPairOf, ShareView, is_
 use Rattle.sweep_share.specs.Registers.{RegistersView, register_in}
 use Rattle.sweep_places.specs.Places.{IsOwnStart, PlacesView}
 use Rattle.sweeper.specs.declared.lists.NextPair.{NextPair}
+use Rattle.sweeper.specs.declared.lists.BegunPair.{BegunPair}
 
 -- The territories and registers that it serves; the places of its objects, in the order of forwarding, and which of them
 -- are not swept; its mail; which round comes next, and whether a round ran out of memory.
@@ -181,3 +183,10 @@ pub data FieldDone (old new : SweeperView) (x p i : ℕ) : Type 0 where
   IsForeign : (t : ℕ) → asked_in old.places.directory (start_in old.share x) i ≡ Some t
       → owner old.share.sweepers t ≢ old.share.number → new ≡ sends old (message.Forward t (back.Field x i))
       → FieldDone old new x p i
+
+-- ---- pairs that are followed
+
+-- The pair b is in hand of u: its words are those of the object, and its car was swept then, or was not.
+pub record IsHalfway (u new : SweeperView) (b : BegunPair) : Type 0 where
+  pub words : IsNextPair u b.pair
+  pub car : IfSwept b.car_swept (λ v w x p. FieldDone v w x p 0) u new b.pair.object b.pair.copy

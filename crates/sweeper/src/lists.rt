@@ -2,6 +2,8 @@
 //!
 //! Most objects are pairs, and the cdr of most of them refers to one that is copied next. That one is swept at once: its
 //! words were read to be copied, and it need not be put among the objects that wait only to be taken from there again.
+//! Where such pairs lie in one from-segment they are copied in one go, with few look-ups. Where a list ends, that goes on
+//! with the pair that waits last, if it lies there, too.
 
 ghost use Rattle.std.specs.Prelude.{◌≡◌, ◌<◌, ◌≤◌, Some, IfOk, IfSome, OnOk, length};
 ghost use Rattle.directory.specs.Directories.{found_at, word_in};
@@ -11,14 +13,17 @@ ghost use Rattle.territory.specs.Finishing.{target_of};
 ghost use Rattle.territory.specs.Territories.{words_of};
 ghost use Rattle.sweep_model.specs.Hands.{IsAbsent};
 ghost use Rattle.sweep_share.specs.Shares.{IsPairOf, start_in};
-ghost use Rattle.sweeper.specs.Sweepers.{CanKeep, FieldDone, IsNextPair, asked_in, in_hand, left_of, with_next};
-ghost use Rattle.sweeper.specs.Ready.{Ready, Runs};
+ghost use Rattle.sweeper.specs.Sweepers.{CanKeep, FieldDone, IsHalfway, IsNextPair, SweeperView, asked_in, in_hand, left_of, with_next};
+ghost use Rattle.sweeper.specs.Ready.{ComesTo, HasBegun, Ready, Runs};
 
 use crate::Sweeper;
 use crate::fields::{Asked, referred};
 use directory::{Directory, Near};
 use gc_words::Address;
 use std::alloc::AllocError;
+
+/// How many words a from-segment has in which pairs lie.
+const SHARED: u32 = 512;
 
 /// A pair that was forwarded and is swept next, with its words, which stayed as they were at its old place.
 #[derive(Clone, Copy)]
@@ -27,6 +32,13 @@ pub(crate) struct NextPair {
     pub copy: Address,
     pub car: u64,
     pub cdr: u64,
+}
+
+/// A pair that is swept next, of which the car may have been swept already.
+#[derive(Clone, Copy)]
+pub(crate) struct BegunPair {
+    pub pair: NextPair,
+    pub car_swept: bool,
 }
 
 impl Sweeper {
@@ -75,27 +87,98 @@ impl Sweeper {
         }))
     }
 
-    /// Handles both fields of a forwarded pair, and answers the pair that is swept next, where its cdr leads to one.
+    /// Sweeps pairs in one go, from one on, as long as each leads to the next in the same from-segment and no car refers
+    /// to another place. Where a cdr refers to no object, it goes on with the pair that waits last, where that lies in the
+    /// same from-segment. Answers the pair to which it came: the first one where its from-segment hasn't `SHARED` words.
+    fn follow(
+        &mut self,
+        pair: NextPair,
+        near: &mut Near,
+        directory: &Directory,
+    ) -> Result<BegunPair, AllocError>
+        requires same { self.old.places.directory ≡ directory.now }
+        requires near { IsNear directory.now near.old }
+        requires ready { Ready (in_hand self.old pair.object pair.copy) }
+        requires words { IsNextPair self.old pair }
+        ensures comes { IfOk result (λ b. ComesTo self.old self.new pair b) }
+        ensures directory { OnOk result (self.new.places.directory ≡ directory.now) }
+        ensures inbox { OnOk result (self.new.inbox ≡ self.old.inbox) }
+        ensures near { IsNear directory.now near.new }
+    {
+        let Some(_) = directory.find_near(near, pair.object) else {
+            unreachable!()
+        };
+        if near.from.size != SHARED {
+            return Ok(BegunPair {
+                pair,
+                car_swept: false,
+            });
+        }
+        let followed = self
+            .places
+            .follow(&mut self.share, pair.object, pair.copy, near.from)?;
+        let Some((car, cdr)) = self.share.pair(followed.object) else {
+            unreachable!()
+        };
+        Ok(BegunPair {
+            pair: NextPair {
+                object: followed.object,
+                copy: followed.copy,
+                car,
+                cdr,
+            },
+            car_swept: followed.car_swept,
+        })
+    }
+
+    /// Handles the car of a forwarded pair, where that was not done.
+    #[inline(always)]
+    fn sweep_car(
+        &mut self,
+        begun: &BegunPair,
+        near: &mut Near,
+        directory: &Directory,
+    ) -> Result<(), AllocError>
+        requires same { self.old.places.directory ≡ directory.now }
+        requires near { IsNear directory.now near.old }
+        requires begun { HasBegun self.old begun.now }
+        ensures done { OnOk result ((u : SweeperView) → IsHalfway u self.old begun.now
+            → FieldDone u self.new begun.now.pair.object begun.now.pair.copy 0) }
+        ensures near { IsNear directory.now near.new }
+    {
+        if begun.car_swept {
+            return Ok(());
+        }
+        let pair = &begun.pair;
+        self.sweep_word(pair.object, pair.copy, 0, pair.car, near, directory)?;
+        Ok(())
+    }
+
+    /// Handles the fields of a forwarded pair that are not swept, and answers the pair that is swept next, where its cdr
+    /// leads to one.
     #[inline(always)]
     fn sweep_pair(
         &mut self,
-        pair: NextPair,
+        begun: BegunPair,
         near: &mut Near,
         directory: &Directory,
     ) -> Result<Option<NextPair>, AllocError>
         requires same { self.old.places.directory ≡ directory.now }
         requires near { IsNear directory.now near.old }
-        requires ready { Ready (in_hand self.old pair.object pair.copy) }
-        requires words { IsNextPair self.old pair }
-        ensures runs { IfOk result (λ next. Runs (in_hand self.old pair.object pair.copy) (with_next self.new next)) }
+        requires begun { HasBegun self.old begun }
+        ensures runs { IfOk result (λ next. (u : SweeperView) → Ready (in_hand u begun.pair.object begun.pair.copy)
+            → IsHalfway u self.old begun
+            → Runs (in_hand u begun.pair.object begun.pair.copy) (with_next self.new next)) }
         ensures words { IfOk result (λ next. IfSome next (IsNextPair self.new)) }
-        ensures less { IfOk result (λ next.
-            left_of (with_next self.new next) < left_of (in_hand self.old pair.object pair.copy)) }
+        ensures less { IfOk result (λ next. (u : SweeperView) → Ready (in_hand u begun.pair.object begun.pair.copy)
+            → IsHalfway u self.old begun
+            → left_of (with_next self.new next) < left_of (in_hand u begun.pair.object begun.pair.copy)) }
         ensures directory { OnOk result (self.new.places.directory ≡ directory.now) }
         ensures near { IsNear directory.now near.new }
         ensures inbox { OnOk result (self.new.inbox ≡ self.old.inbox) }
     {
-        self.sweep_word(pair.object, pair.copy, 0, pair.car, near, directory)?;
+        self.sweep_car(&begun, near, directory)?;
+        let pair = begun.pair;
         let Some(target) = referred(pair.cdr) else {
             return Ok(None);
         };
@@ -130,7 +213,8 @@ impl Sweeper {
     {
         let mut next = Some(first);
         while let Some(pair) = next {
-            next = self.sweep_pair(pair, near, directory)?;
+            let begun = self.follow(pair, near, directory)?;
+            next = self.sweep_pair(begun, near, directory)?;
         }
         Ok(())
     }

@@ -5,10 +5,10 @@ use Rattle.sweep_places.proofs.places.Places.new.Goals as goal
 
 pub invariant_of-result : goal.invariant_of-result
 invariant_of-result c = (
-  subst (λ d. ArePlaces d c.args.number c.first_word-first.result c.in_ok-table.table.items c.new-2.result.items) (sym c.of.ensures)
-      (subst (λ l. ArePlaces c.args.directory.now c.args.number c.first_word-first.result l c.new-2.result.items) (sym c.in_ok-table.ensures)
-      (subst (ArePlaces c.args.directory.now c.args.number c.first_word-first.result _) (sym c.new-2.ensures)
+  subst (λ d. ArePlaces d c.args.number c.first_word-first.result c.in_ok-table.table.items c.new.result.items) (sym c.of.ensures)
+      (subst (λ l. ArePlaces c.args.directory.now c.args.number c.first_word-first.result l c.new.result.items) (sym c.in_ok-table.ensures)
+      (subst (ArePlaces c.args.directory.now c.args.number c.first_word-first.result _) (sym c.new.ensures)
       (none_noted c.args.directory.now c.args.number c.first_word-first.result c.range.result c.requires c.first_word-first.ensures
       c.range.ensures.value c.range.ensures.own c.range.ensures.apart))),
-  sym (ap length c.new-2.ensures),
+  sym (ap length c.new.ensures),
 )

@@ -12,7 +12,8 @@ invariant-loop-next l = record {
   same : l.self.places.directory ≡ l.directory;
   inbox : l.self.inbox ≡ l.fn.self.inbox;
   most : left_of (with_next l.self l.next) ≤ left_of (in_hand l.fn.self l.fn.first.object l.fn.first.copy);
-  less : IfNone l.next (left_of (with_next l.self l.next) < left_of (in_hand l.fn.self l.fn.first.object l.fn.first.copy));
+  less : IfNone l.next
+      (left_of (with_next l.self l.next) < left_of (in_hand l.fn.self l.fn.first.object l.fn.first.copy));
 }
 
 abbrev pub decreases-loop-next : goal.decreases-loop-next
