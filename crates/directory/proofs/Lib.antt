@@ -6,3 +6,5 @@ pub mod Joining
 pub mod Owners
 pub mod Ranges
 pub mod Shared
+pub mod Turning
+pub mod Reaching

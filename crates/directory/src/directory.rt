@@ -4,8 +4,10 @@ ghost use Rattle.std.specs.Prelude.{◌≡◌, ◌↔◌, ℕ, ◌+◌, ◌^◌,
 ghost use Rattle.directory.specs.Tables.{aside_at, shown};
 ghost use Rattle.territory.specs.Finishing.{target_of};
 ghost use Rattle.directory.specs.Directories.{found_at, from_at, from_in, owner_in, start_of, sweeper_count, word_in, AreOfThreads, HasOwnWords, HaveBegun, IsCollected, IsWithin, TellsApart};
+ghost use Rattle.directory.specs.Reaches.{Reaches};
 
 use crate::numbering::{THREADS, number_threads};
+use crate::reach::{Reach, reach_of};
 use crate::table::{FromSegment, FromTable};
 use gc_words::Address;
 use std::alloc::{AllocError, Global};
@@ -32,16 +34,20 @@ pub struct Directory {
     firsts: Vec<usize>,
     /// The from-segments of each thread.
     pub(crate) tables: Vec<FromTable>,
+    /// All of them lie within it.
+    reach: Reach,
 }
 
 impl Model for Directory {
     ghost use Rattle.directory.specs.Directories.{DirectoryView, AreTargets, IsSound};
+    ghost use Rattle.directory.specs.Reaches.{ReachesIn};
 
     ghost Value = { DirectoryView };
 
     ghost view = { λ d. record { targets = d.targets; ranges = d.ranges.items; tables = d.tables.items } };
 
-    ghost invariant = { λ d. AreTargets d.targets × IsSound d.ranges.items d.firsts.items d.tables.items };
+    ghost invariant = { λ d. AreTargets d.targets × IsSound d.ranges.items d.firsts.items d.tables.items
+        × ReachesIn d.reach d.tables.items };
 }
 
 /// A table without from-segments for each thread.
@@ -114,11 +120,13 @@ impl Directory {
             ranges.push(next - word)?;
             word = next;
         }
+        let reach = reach_of(&tables);
         Ok(Directory {
             targets,
             ranges,
             firsts,
             tables,
+            reach,
         })
     }
 
@@ -136,6 +144,14 @@ impl Directory {
         ensures range { result ≤ 8 }
     {
         self.targets.cg
+    }
+
+    /// Between which addresses all that is collected lies.
+    #[inline(always)]
+    pub fn reach(&self) -> Reach
+        ensures { Reaches result self.now }
+    {
+        self.reach
     }
 
     /// What is told of an address, by one look-up: None exactly where it lies in no from-segment. Asked of each

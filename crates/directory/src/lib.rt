@@ -9,16 +9,19 @@
 //! Invariant: the words of a from-segment lie in the range of its owner, and no two have a word in common.
 //! `new` alone takes memory. No call searches: a look-up is an index by thread and one by segment number, and
 //! `find` tells by one look-up all that a collection wants to know of a reference. `find_near` needs none where
-//! the reference before it led into the same from-segment.
+//! the reference before it led into the same from-segment. Most words refer to nothing collected: `reach` says
+//! between which addresses all of that lies, and `Reach::may_refer` tells by one comparison of a word.
 #![tactic(auto)]
 
 mod directory;
 mod near;
 mod numbering;
+mod reach;
 #[cfg(test)]
 mod rows;
 mod table;
 
 pub use directory::{Directory, Found};
 pub use near::Near;
+pub use reach::Reach;
 pub use table::FromSegment;

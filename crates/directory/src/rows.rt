@@ -6,7 +6,8 @@ ghost use Rattle.directory.specs.Nears.{IsNear};
 
 use crate::directory::Directory;
 use crate::near::Near;
-use gc_words::Address;
+use crate::reach::Reach;
+use gc_words::{Address, Value, encode};
 use std::alloc::{AllocError, Global};
 use std::test::Fail;
 use territory::{Targets, Territory};
@@ -159,6 +160,51 @@ fn what_lies_near(rt: HostRuntime) -> Result<(), Fail> {
             "{thread} {segment} {offset}"
         );
     }
+    Ok(())
+}
+
+#[test]
+fn which_words_may_refer(rt: HostRuntime) -> Result<(), Fail> {
+    let reach = Reach {
+        least: 16,
+        beyond: 32,
+    };
+    for (word, expected) in [
+        (113, false),
+        (129, true),
+        (241, true),
+        (257, false),
+        (128, false),
+        (134, false),
+        (0, false),
+        (18446744073709551615, false),
+    ] {
+        assert_eq!(rt; reach.may_refer(word), expected, "{word}");
+    }
+    Ok(())
+}
+
+#[test]
+fn what_is_within_reach(rt: HostRuntime) -> Result<(), Fail> {
+    let alloc = rt.alloc();
+    let territories = all_begun(alloc, TARGETS)?;
+    let reach = Directory::new(alloc, &territories, TARGETS, 1)?.reach();
+    for (thread, segment, offset, expected) in [
+        (0, 0, 0, true),
+        (0, 1, 200, true),
+        (5, 1, 8388606, true),
+        (5, 2, 0, false),
+        (63, 4294967295, 8388606, false),
+    ] {
+        let at = Address::new(thread, segment, offset).ok_or("an address")?;
+        assert_eq!(rt;
+            reach.may_refer(encode(Value::Object(at))),
+            expected,
+            "{thread} {segment} {offset}"
+        );
+    }
+    assert!(rt; !reach.may_refer(encode(Value::Nil)));
+    assert!(rt; !reach.may_refer(encode(Value::Fixnum(1))));
     Ok(())
 }
 

@@ -1,6 +1,6 @@
 //! The from-segments of one thread, by their numbers.
 
-ghost use Rattle.std.specs.Prelude.{◌≡◌, ◌≢◌, ◌+◌, ◌^◌, ◌<◌, ◌≤◌, ℕ, [], Some, OnOk};
+ghost use Rattle.std.specs.Prelude.{◌≡◌, ◌≢◌, ◌+◌, ◌^◌, ◌<◌, ◌≤◌, ℕ, [], Some, IsSome, OnOk};
 ghost use Rattle.directory.specs.Tables.{entry_in, run_of, word_at};
 
 use std::alloc::{AllocError, Global};
@@ -49,15 +49,20 @@ impl FromSegment {
 #[derive(Drop)]
 pub struct FromTable {
     entries: Vec<Option<FromSegment>>,
+    /// No from-segment has a smaller number. The greatest number while there is none.
+    first: usize,
 }
 
 impl Model for FromTable {
     ghost use Rattle.std.specs.Prelude.{List, Option};
     ghost use Rattle.directory.specs.declared.table.FromSegment.{FromSegment};
+    ghost use Rattle.directory.specs.Tables.{BeginsAt};
 
     ghost Value = { List (Option FromSegment) };
 
     ghost view = { λ t. t.entries.items };
+
+    ghost invariant = { λ t. BeginsAt t.entries.items t.first };
 }
 
 impl FromTable {
@@ -67,6 +72,7 @@ impl FromTable {
     {
         FromTable {
             entries: Vec::new(alloc),
+            first: usize::MAX,
         }
     }
 
@@ -80,7 +86,16 @@ impl FromTable {
             self.entries.resize(length, None)?;
         }
         self.entries[segment] = Some(from);
+        self.first = self.first.min(segment);
         Ok(())
+    }
+
+    /// The least number of a from-segment, and one beyond the greatest. Where there is none, the second is not
+    /// greater than the first.
+    pub fn numbers(&self) -> (usize, usize)
+        ensures { (n : ℕ) → IsSome (entry_in self.now n) → (result.0 ≤ n) × (n < result.1) }
+    {
+        (self.first, self.entries.len())
     }
 
     /// The from-segment of a number. None where the number is of no from-segment.

@@ -1,7 +1,10 @@
 use Rattle.std.proofs.Common.{◌+◌, ◌<◌, ◌^◌, refl, subst, ◌∙◌, ap}
 use Rattle.std.specs.Option.{SomeIff}
-use Rattle.directory.proofs.Walk.{walked_more, walked_falls, walked_all}
+use Rattle.directory.proofs.Walk.{next_from_one, walked_more, walked_falls, walked_all}
 use Rattle.directory.proofs.numbering.number_segments.Goals as goal
+
+pub next_from-at-requires : goal.next_from-at-requires
+next_from-at-requires c = next_from_one _ _ _ _ _ _ c.loop-at.invariant c.in-Some.is
 
 pub loop-at-smaller : goal.loop-at-smaller
 loop-at-smaller c = walked_falls _ _ _ _ _ _ _ c.loop-at.invariant c.in-Some.is c.next_from-at.ensures.next

@@ -1,4 +1,5 @@
-use Rattle.std.proofs.Common.{arith}
+use Rattle.std.proofs.Common.{subst, arith}
+use Rattle.directory.specs.Reaches.{ReachesIn}
 use Rattle.directory.proofs.Shared.{cut_pushed, cut_end, cut_all, cut_shown}
 use Rattle.directory.proofs.Telling.{own_words, tells_apart}
 use Rattle.directory.proofs.directory.Directory.new.Goals as goal
@@ -13,6 +14,7 @@ invariant_of-result c =
     let whole = cut_end _ _ _ _ _ _ _ (omega (arith, c.loop-sweeper-test.false, c.loop-sweeper.auto.sweeper-end)) c.loop-sweeper.invariant in (
       record { least = c.requires.least; greatest = c.requires.greatest; generations = c.requires.generations },
       cut_all _ _ _ _ c.loop-sweeper.word _ c.requires.sweepers_in.0 c.requires.sweepers_in.1 (omega arith) whole,
+      subst (ReachesIn c.reach_of-reach.result) c.deref.ensures.value c.reach_of-reach.ensures,
     )
 
 pub returns-clause-segments : goal.returns-clause-segments
