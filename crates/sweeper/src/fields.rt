@@ -83,8 +83,13 @@ pub(crate) fn first_asked(
         → asked_by directory.now (slice_index words.now i) ≡ None) }
     ensures near { IsNear directory.now near.new }
 {
+    let reach = directory.reach();
     for index in from..end {
-        if let Some(target) = referred(words[index as usize]) {
+        let word = words[index as usize];
+        if !reach.may_refer(word) {
+            continue;
+        }
+        if let Some(target) = referred(word) {
             if let Some(found) = directory.find_near(near, target) {
                 return Some(Asked {
                     index,

@@ -34,6 +34,20 @@ pub(crate) struct NextPair {
     pub cdr: u64,
 }
 
+impl NextPair {
+    /// Whether its cdr refers to an object in another segment, so that it leads to none that is copied in one go with it.
+    #[inline(always)]
+    fn leads_away(&self) -> bool {
+        match referred(self.cdr) {
+            Some(target) => {
+                target.segment() != self.object.segment()
+                    || target.thread() != self.object.thread()
+            }
+            None => false,
+        }
+    }
+}
+
 /// A pair that is swept next, of which the car may have been swept already.
 #[derive(Clone, Copy)]
 pub(crate) struct BegunPair {
@@ -89,7 +103,8 @@ impl Sweeper {
 
     /// Sweeps pairs in one go, from one on, as long as each leads to the next in the same from-segment and no car refers
     /// to another place. Where a cdr refers to no object, it goes on with the pair that waits last, where that lies in the
-    /// same from-segment. Answers the pair to which it came: the first one where its from-segment hasn't `SHARED` words.
+    /// same from-segment. Answers the pair to which it came: the first one where its cdr leads away, or where its
+    /// from-segment hasn't `SHARED` words.
     fn follow(
         &mut self,
         pair: NextPair,
@@ -105,6 +120,12 @@ impl Sweeper {
         ensures inbox { OnOk result (self.new.inbox ≡ self.old.inbox) }
         ensures near { IsNear directory.now near.new }
     {
+        if pair.leads_away() {
+            return Ok(BegunPair {
+                pair,
+                car_swept: false,
+            });
+        }
         let Some(_) = directory.find_near(near, pair.object) else {
             unreachable!()
         };

@@ -9,7 +9,10 @@ unreachable-requires c =
     pair_aside c.args.self.now c.args.pair c.requires.ready c.requires.words c.args.directory.now c.requires.same
     (sym c.find_near.ensures.value ∙ c.in_default.is)
 
--- ---- another from-segment
+-- ---- none is followed
+
+pub returns-then-leads_away-clause-comes : goal.returns-then-leads_away-clause-comes
+returns-then-leads_away-clause-comes c = comes_nowhere c.args.self.now c.args.pair c.requires.words
 
 pub returns-then-near-ne-SHARED-clause-comes : goal.returns-then-near-ne-SHARED-clause-comes
 returns-then-near-ne-SHARED-clause-comes c = comes_nowhere c.args.self.now c.args.pair c.requires.words
