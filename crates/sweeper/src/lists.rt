@@ -40,8 +40,7 @@ impl NextPair {
     fn leads_away(&self) -> bool {
         match referred(self.cdr) {
             Some(target) => {
-                target.segment() != self.object.segment()
-                    || target.thread() != self.object.thread()
+                target.segment() != self.object.segment() || target.thread() != self.object.thread()
             }
             None => false,
         }
