@@ -70,6 +70,18 @@ fn none_yet(alloc: Global, count: u32) -> Result<Vec<OwnTerritories>, AllocError
     Ok(owns)
 }
 
+/// All territories for the one sweeper there is. Takes memory.
+fn deal_to_one(
+    alloc: Global,
+    territories: Vec<Territory>,
+) -> Result<Vec<OwnTerritories>, AllocError>
+    ensures { IfOk result (λ v. AreDealt 1 territories.items v.items) }
+{
+    let mut owns = Vec::new(alloc);
+    owns.push(OwnTerritories::new(territories))?;
+    Ok(owns)
+}
+
 /// Deals all territories out to so many sweepers, in their order. Takes memory.
 pub(crate) fn deal_territories(
     alloc: Global,
@@ -80,6 +92,11 @@ pub(crate) fn deal_territories(
     requires all { length territories.items ≡ 64 }
     ensures { IfOk result (λ v. AreDealt sweepers territories.items v.items) }
 {
+    // A territory is large: where nothing is to be collected, to move all of them would take longer than all else. One
+    // sweeper is given the list as it is.
+    if sweepers == 1 {
+        return deal_to_one(alloc, territories);
+    }
     let mut owns = none_yet(alloc, sweepers)?;
     let mut next = 0;
     for territory in territories {
