@@ -99,3 +99,15 @@ dealt_more n all owns t some dealt = record {
 
     more : List TerritoryView
     more = own_at owns turn ++ t ∷ []
+
+-- ---- one sweeper
+
+-- it has all of them
+pub dealt_one : (all : List TerritoryView) (owns : List (List TerritoryView)) → owns ≡ all ∷ [] → AreDealt 1 all owns
+dealt_one all owns is = subst (AreDealt 1 all) (sym is) (record {
+  count = refl;
+  each = λ k low.
+      let first : 0 ≡ k = omega (arith, low) in
+      subst (λ j. IsDealtTo 1 j all (own_at (all ∷ []) j)) first
+      (λ i. ap (slice_get all) (omega arith));
+})

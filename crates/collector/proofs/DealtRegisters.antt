@@ -1,12 +1,11 @@
--- Registers are dealt out one by one: one more of the sweeper's is dealt to it where it holds an object.
-use Rattle.std.proofs.Common.{◌≡◌, ◌≢◌, ℕ, ◌+◌, ◌*◌, ◌/◌, ◌%◌, ◌<◌, ◌≤◌, ◌==◌, cond, List, [], ◌∷◌, ◌++◌, length, option_map, slice_get, Option, None, Some, refl, sym, ◌∙◌, ap, subst, inl, inr, arith}
+-- Registers that hold objects are dealt out one by one, each to its sweeper.
+use Rattle.std.proofs.Common.{◌≡◌, ◌≢◌, ℕ, ◌+◌, ◌%◌, ◌<◌, ◌≤◌, ◌==◌, cond, List, [], ◌∷◌, ◌++◌, length, get_or, set, replicate, option_map, slice_get, Option, None, Some, IsSome, refl, sym, ◌∙◌, ap, subst, inl, inr, arith, get_or-set_same, get_or-set_other}
 use Rattle.std.specs.FinMap.{find}
 use Rattle.std.specs.Ordering.{nat_cmp}
-use Rattle.std.proofs.Math.Nat.{mod-add-div', mod-eq_of_lt, mul-le-mul_right}
+use Rattle.std.proofs.Math.Nat.{mod-lt}
 use Rattle.std.proofs.lemmas.Bool.{cases_eq, cases_lt}
-use Rattle.std.proofs.lemmas.List.{get_or_append_left, get_or_push, length_push}
-use Rattle.std.proofs.lemmas.Nat.{mod-mul-add}
-use Rattle.std.proofs.lemmas.Option.{none-some, same_Some, slice_get_past}
+use Rattle.std.proofs.lemmas.List.{get_or-replicate, get_or_append_left, get_or_push, length-replicate, length-set, length_push}
+use Rattle.std.proofs.lemmas.Option.{none-some, same_Some, slice_get-get_or, slice_get_past}
 use Rattle.gc_words.specs.declared.value.Value.{Value}
 use Rattle.gc_words.specs.declared.value.Value.TheVariants.{Nil, Object}
 use Rattle.sweep_model.specs.World.{object_in}
@@ -14,7 +13,7 @@ use Rattle.sweep_share.specs.Registers.{AreRegistersOf, item_at}
 use Rattle.sweep_share.proofs.Numbers.{find_first, find_here, find_later, found_at}
 use Rattle.collect_model.specs.Worlds.{objects_only}
 use Rattle.collect_model.proofs.References.{place_is}
-use Rattle.collector.specs.Dealt.{AreRegistersDealtTo}
+use Rattle.collector.specs.Dealt.{AreRegistersDealt, AreRegistersDealtTo, HoldNone, NumberedValues, registers_at}
 
 -- ---- what a list has for a number
 
@@ -51,92 +50,64 @@ find_above items next below = at (find nat_cmp next items) refl
         let under = below f.0 f.1.within in
         absurd (omega (arith, under, f.1.number))
 
--- ---- the numbers of a sweeper
-
--- between two of them there is no other
-none_between : (n r next : ℕ) → r % n ≡ next % n → next < r → r < next + n → ⊥
-none_between n r next same above below =
-    let a = mod-add-div' r n in
-    let b = mod-add-div' next n in
-    elim (cases_lt (next / n) (r / n)) [
-      | inl less ↦
-          let le : next / n + 1 ≤ r / n = omega (arith, less) in
-          let more : (next / n + 1) * n ≤ r / n * n = mul-le-mul_right n le in
-          absurd (omega (arith, a, b, same, more, below))
-      | inr most ↦
-          let le : r / n * n ≤ next / n * n = mul-le-mul_right n most in
-          absurd (omega (arith, a, b, same, le, above))
-    ]
-
--- the next one is of the same sweeper
-same_after : (n next : ℕ) → next % n < n → (next + n) % n ≡ next % n
-same_after n next low =
-    let whole = mod-add-div' next n in
-    let turned : next + n ≡ (next / n + 1) * n + next % n = omega (arith, whole) in
-    ap (λ m. m % n) turned ∙ mod-mul-add (next / n + 1) n (next % n) low
-
 -- ---- dealt so far
 
--- the registers of the sweeper below the next one are dealt to it, as far as they hold objects
-pub record AreFirstDealt (n k : ℕ) (all : List Value) (next : ℕ) (own : List (ℕ × Value)) : Type 0 where
-  pub place : next % n ≡ k
+-- the registers of sweeper k below the next one are dealt to it, as far as they hold objects
+pub record AreFirstDealt (n k : ℕ) (all : List Value) (next : ℕ) (own : NumberedValues) : Type 0 where
   pub are : AreRegistersOf k n own
   pub below : AreBelow own next
   pub held : (r : ℕ) → r % n ≡ k → r < next → find nat_cmp r own ≡ objects_only (slice_get all r)
 
-pub registers_none : (n k : ℕ) (all : List Value) → k < n → AreFirstDealt n k all k []
-registers_none n k all low = record {
-  place = mod-eq_of_lt low;
+first_none : (n k : ℕ) (all : List Value) → k < n → AreFirstDealt n k all 0 []
+first_none n k all low = record {
   are = record {
     number_in = low;
     numbers = λ i b. absurd (omega (arith, b));
     ascend = λ i j l b. absurd (omega (arith, b));
   };
   below = λ i b. absurd (omega (arith, b));
-  held = λ r mine less.
-      let same : r % n ≡ r = mod-eq_of_lt (omega (arith, less, low)) in
-      absurd (omega (arith, mine, same, less));
+  held = λ r mine less. absurd (omega (arith, less));
 }
 
-module _ (n k : ℕ) (all : List Value) (next : ℕ) (own : List (ℕ × Value)) (v : Value)
-    (here : slice_get all next ≡ Some v) (first : AreFirstDealt n k all next own) where
-  place_after : (next + n) % n ≡ k
-  place_after =
-      same_after n next (subst (λ m. m < n) (sym first.place) first.are.number_in) ∙ first.place
+-- registers that hold no objects are passed
+first_past : (n k : ℕ) (all : List Value) (from next : ℕ) (own : NumberedValues) → from ≤ next → HoldNone all from next
+    → AreFirstDealt n k all from own → AreFirstDealt n k all next own
+first_past n k all from next own most none first = record {
+  are = first.are;
+  below = λ i b. let low = first.below i b in omega (arith, low, most);
+  held = λ r mine less. elim (cases_lt r from) [
+    | inl low ↦ first.held r mine low
+    | inr past ↦
+        find_above own r (λ i b. let low = first.below i b in omega (arith, low, past))
+        ∙ sym (ap (option_map Object) (none r past less))
+  ];
+}
 
-  -- a number of the sweeper below the one after the next, if it is not the next
-  before : (r : ℕ) → r % n ≡ k → r < next + n → r ≢ next → r < next
-  before r mine less ne = elim (cases_lt r next) [
-    | inl low ↦ low
-    | inr most ↦ absurd (none_between n r next (mine ∙ sym first.place) (omega (arith, most, ne)) less)
-  ]
+module _ (n k : ℕ) (all : List Value) (next : ℕ) (own : NumberedValues)
+    (first : AreFirstDealt n k all next own) where
+  -- a number below the one after the next, if it is not the next
+  before : (r : ℕ) → r < next + 1 → r ≢ next → r < next
+  before r less ne = omega (arith, less, ne)
 
-  -- a register that holds no object is passed
-  pub registers_past : object_in (Some v) ≡ None → AreFirstDealt n k all (next + n) own
-  registers_past none = record {
-    place = place_after;
+  -- a register of another sweeper is passed
+  first_other : next % n ≢ k → AreFirstDealt n k all (next + 1) own
+  first_other other = record {
     are = first.are;
     below = λ i b. let low = first.below i b in omega (arith, low);
-    held = λ r mine less. elim (cases_eq r next) [
-      | inl e ↦
-          ap (λ m. find nat_cmp m own) e
-          ∙ (find_above own next first.below
-          ∙ sym (ap (λ m. objects_only (slice_get all m)) e ∙ (ap objects_only here ∙ ap (option_map Object) none)))
-      | inr ne ↦ first.held r mine (before r mine less ne)
-    ];
+    held = λ r mine less. first.held r mine (before r less (λ e. other (sym (ap (λ m. m % n) e) ∙ mine)));
   }
 
-  -- one that holds an object is dealt out
-  pub registers_more : (t : ℕ) → v ≡ Object t → AreFirstDealt n k all (next + n) (own ++ (next, v) ∷ [])
-  registers_more t is = record {
-    place = place_after;
+  -- one of its own that holds an object is dealt out
+  first_more : (v : Value) → next % n ≡ k → objects_only (slice_get all next) ≡ Some v
+      → AreFirstDealt n k all (next + 1) (own ++ (next, v) ∷ [])
+  first_more v place object = record {
     are = record {
       number_in = first.are.number_in;
       numbers = λ i b. elim (cases_lt i (length own)) [
         | inl low ↦ ap (λ m. m % n) (number_old i low) ∙ first.are.numbers i low
         | inr far ↦
             let same : length own ≡ i = omega (arith, b, far, count) in
-            subst (λ m. (item_at more m).0 % n ≡ k) same (ap (λ m. m % n) number_new ∙ first.place)
+            subst (λ m. (item_at more m).0 % n ≡ k) same (ap (λ m. m % n) number_new ∙ place)
       ];
       ascend = λ i j less b. elim (cases_lt j (length own)) [
         | inl low ↦
@@ -153,19 +124,18 @@ module _ (n k : ℕ) (all : List Value) (next : ℕ) (own : List (ℕ × Value))
       | inl low ↦ omega (arith, first.below i low, number_old i low)
       | inr far ↦
           let same : length own ≡ i = omega (arith, b, far, count) in
-          subst (λ m. (item_at more m).0 < next + n) same (omega (arith, number_new, first.are.number_in))
+          subst (λ m. (item_at more m).0 < next + 1) same (omega (arith, number_new))
     ];
     held = λ r mine less. elim (cases_eq r next) [
       | inl e ↦
           ap (λ m. find nat_cmp m more) e
           ∙ (find_push_here own (next, v) (find_above own next first.below)
-          ∙ (ap Some is
-          ∙ sym (ap (λ m. objects_only (slice_get all m)) e ∙ (ap objects_only here ∙ ap (λ z. objects_only (Some z)) is))))
-      | inr ne ↦ find_push_other own (next, v) r ne ∙ first.held r mine (before r mine less ne)
+          ∙ (sym object ∙ sym (ap (λ m. objects_only (slice_get all m)) e)))
+      | inr ne ↦ find_push_other own (next, v) r ne ∙ first.held r mine (before r less ne)
     ];
   }
     where
-      more : List (ℕ × Value)
+      more : NumberedValues
       more = own ++ (next, v) ∷ []
 
       count : length more ≡ length own + 1
@@ -177,23 +147,100 @@ module _ (n k : ℕ) (all : List Value) (next : ℕ) (own : List (ℕ × Value))
       number_new : (item_at more (length own)).0 ≡ next
       number_new = ap (λ (z : ℕ × Value). z.0) (get_or_push own (next, v) (0, Nil) (length own) refl)
 
--- past the last register there are no more
-pub registers_all : (n k : ℕ) (all : List Value) (next : ℕ) (own : List (ℕ × Value)) → length all ≤ next
-    → AreFirstDealt n k all next own → AreRegistersDealtTo n k all own
-registers_all n k all next own done first = record {
+-- where no more registers hold objects, all are dealt out
+first_all : (n k : ℕ) (all : List Value) (from : ℕ) (own : NumberedValues) → HoldNone all from (length all)
+    → AreFirstDealt n k all from own → AreRegistersDealtTo n k all own
+first_all n k all from own none first = record {
   are = first.are;
-  held = λ r mine. elim (cases_lt r next) [
+  held = λ r mine. elim (cases_lt r from) [
     | inl less ↦ first.held r mine less
     | inr past ↦
         find_above own r (λ i b. let low = first.below i b in omega (arith, low, past))
-        ∙ sym (ap objects_only (slice_get_past all r (omega (arith, past, done))))
+        ∙ sym (ap (option_map Object) (elim (cases_lt r (length all)) [
+          | inl inside ↦ none r past inside
+          | inr outside ↦ ap object_in (slice_get_past all r outside)
+        ]))
   ];
 }
 
+-- ---- to all sweepers
+
+-- the registers below the next one are dealt out to n sweepers, as far as they hold objects
+pub record AreDealtBelow (n : ℕ) (all : List Value) (next : ℕ) (owns : List NumberedValues) : Type 0 where
+  pub count : length owns ≡ n
+  pub each : (k : ℕ) → k < n → AreFirstDealt n k all next (registers_at owns k)
+
+pub registers_none : (n : ℕ) (all : List Value) → AreDealtBelow n all 0 (replicate n [])
+registers_none n all = record {
+  count = length-replicate n [];
+  each = λ k low. subst (AreFirstDealt n k all 0) (sym (get_or-replicate n k [] [] low)) (first_none n k all low);
+}
+
+-- the next register that holds an object goes to its sweeper
+pub registers_more : (n : ℕ) (all : List Value) (from next : ℕ) (owns : List NumberedValues) (v : Value) → 0 < n
+    → from ≤ next → HoldNone all from next → objects_only (slice_get all next) ≡ Some v → AreDealtBelow n all from owns
+    → AreDealtBelow n all (next + 1) (set owns (next % n) (registers_at owns (next % n) ++ (next, v) ∷ []))
+registers_more n all from next owns v some most none object begun = record {
+  count = length-set owns turn more ∙ begun.count;
+  each = λ k low.
+      let first : AreFirstDealt n k all next (registers_at owns k) =
+      first_past n k all from next (registers_at owns k) most none (begun.each k low) in
+      elim (cases_eq k turn) [
+        | inl e ↦
+            let mine : registers_at (set owns turn more) k ≡ registers_at owns k ++ (next, v) ∷ [] =
+            ap (registers_at (set owns turn more)) e
+            ∙ (get_or-set_same owns turn more [] (omega (arith, begun.count, mod-lt next some))
+            ∙ ap (λ j. registers_at owns j ++ (next, v) ∷ []) (sym e)) in
+            subst (AreFirstDealt n k all (next + 1)) (sym mine)
+            (first_more n k all next (registers_at owns k) first v (sym e) object)
+        | inr ne ↦
+            subst (AreFirstDealt n k all (next + 1)) (sym (get_or-set_other owns turn k more [] ne))
+            (first_other n k all next (registers_at owns k) first (λ e. ne (sym e)))
+      ];
+}
+  where
+    turn : ℕ
+    turn = next % n
+
+    more : NumberedValues
+    more = registers_at owns turn ++ (next, v) ∷ []
+
+-- where no more hold objects
+pub registers_all : (n : ℕ) (all : List Value) (from : ℕ) (owns : List NumberedValues) → HoldNone all from (length all)
+    → AreDealtBelow n all from owns → AreRegistersDealt n all owns
+registers_all n all from owns none begun = record {
+  count = begun.count;
+  each = λ k low. first_all n k all from (registers_at owns k) none (begun.each k low);
+}
+
+-- ---- what a register holds
+
 -- a value that is no object
-pub no_object : (v : Value) → ((t : ℕ) → v ≡ Object t → ⊥) → object_in (Some v) ≡ None
+no_object : (v : Value) → ((t : ℕ) → v ≡ Object t → ⊥) → object_in (Some v) ≡ None
 no_object v other = at (object_in (Some v)) refl
   where
     at : (o : Option ℕ) → object_in (Some v) ≡ o → object_in (Some v) ≡ None
     at None e = e
     at (Some t) e = absurd (other t (same_Some v (Object t) (place_is (Some v) t e)))
+
+-- one more is passed
+pub hold_none_more : (all : List Value) (from r : ℕ) (d : Value) → r < length all
+    → ((t : ℕ) → get_or all r d ≡ Object t → ⊥) → HoldNone all from r → HoldNone all from (r + 1)
+hold_none_more all from r d inside other none q most less = elim (cases_eq q r) [
+  | inl e ↦
+      ap (λ m. object_in (slice_get all m)) e
+      ∙ (ap object_in (slice_get-get_or all r d inside) ∙ no_object (get_or all r d) other)
+  | inr ne ↦ none q most (omega (arith, less, ne))
+]
+
+not_some : (o : Option ℕ) → o ≡ None → IsSome o → ⊥
+not_some None e h = cc
+not_some (Some t) e h = cc
+
+-- a register that holds an object holds nothing else
+pub object_held : (o : Option Value) (v : Value) → o ≡ Some v → IsSome (object_in o) → objects_only o ≡ Some v
+object_held o v is some = at (object_in o) refl
+  where
+    at : (p : Option ℕ) → object_in o ≡ p → objects_only o ≡ Some v
+    at None e = absurd (not_some (object_in o) e some)
+    at (Some t) e = ap (option_map Object) e ∙ (sym (place_is o t e) ∙ is)

@@ -173,3 +173,28 @@ gathered n owns now territories taken = record {
       slice_get_reverse territories t (omega (arith, below, taken.taken_count))
       ∙ (ap (slice_get territories) (omega (arith, taken.taken_count)) ∙ taken.taken t (omega arith) below);
 }
+
+-- ---- one sweeper
+
+-- it has all of them, in order
+pub gathered_one : (owns rest : List (List TerritoryView)) (all : List TerritoryView) → owns ≡ rest ++ all ∷ []
+    → length owns ≡ 1 → AreWhole 1 owns → AreGathered 1 owns all
+gathered_one owns rest all is one whole =
+    let none : length rest ≡ 0 = omega (arith, ap length is, length_push rest all, one) in
+    let first : own_at owns 0 ≡ all = ap (λ l. own_at l 0) is ∙ get_or_push rest all [] 0 none in
+    let most : length (own_at owns 0) ≤ 64 = elim (cases_lt 64 (length (own_at owns 0))) [
+      | inl more ↦
+          let far : 0 + 64 * 1 < 64 = (whole 0 64 (omega arith)).0 more in
+          absurd (omega (arith, far))
+      | inr few ↦ few
+    ] in
+    let last : 63 < length (own_at owns 0) = (whole 0 63 (omega arith)).1 (omega arith) in
+    record {
+      count = omega (arith, most, last, ap length first);
+      each = λ t below.
+          let some : 0 < 1 = omega arith in
+          let only : 0 ≡ t % 1 = omega (arith, mod-lt t some) in
+          let place : t ≡ t / 1 = omega (arith, only, div-add-mod' t 1) in
+          ap (λ l. slice_get l t) (sym first)
+          ∙ (ap (λ k. slice_get (own_at owns k) t) only ∙ ap (slice_get (own_at owns (t % 1))) place);
+    }

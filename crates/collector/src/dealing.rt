@@ -1,12 +1,14 @@
 //! Territories and registers are dealt out to sweepers: those of number k go to the sweeper of k modulo their number. Of
 //! the registers only those are dealt out that hold objects, since a collection leaves the others as they are.
 
-ghost use Rattle.std.specs.Prelude.{◌≡◌, ◌<◌, ◌≤◌, [], ◌++◌, ◌∷◌, length, replicate, IfNone, IfOk, IfSome, OnOk};
-ghost use Rattle.collector.specs.Dealt.{AreDealt, AreRegistersDealtTo};
+ghost use Rattle.std.specs.Prelude.{◌≡◌, ◌<◌, ◌≤◌, [], ◌++◌, ◌∷◌, length, replicate, slice_get, IfNone, IfOk, IfSome, IsSome, OnOk};
+ghost use Rattle.sweep_model.specs.World.{object_in};
+ghost use Rattle.collector.specs.Dealt.{AreDealt, AreRegistersDealt, HoldNone};
 
 use gc_words::Value;
 use std::alloc::{AllocError, Global};
 use std::marker::Model;
+use std::mem::replace;
 use territory::Territory;
 
 /// The territories of one sweeper, in the order of their threads.
@@ -70,6 +72,18 @@ fn none_yet(alloc: Global, count: u32) -> Result<Vec<OwnTerritories>, AllocError
     Ok(owns)
 }
 
+/// All territories for the one sweeper there is. Takes memory.
+fn deal_to_one(
+    alloc: Global,
+    territories: Vec<Territory>,
+) -> Result<Vec<OwnTerritories>, AllocError>
+    ensures { IfOk result (λ v. AreDealt 1 territories.items v.items) }
+{
+    let mut owns = Vec::new(alloc);
+    owns.push(OwnTerritories::new(territories))?;
+    Ok(owns)
+}
+
 /// Deals all territories out to so many sweepers, in their order. Takes memory.
 pub(crate) fn deal_territories(
     alloc: Global,
@@ -80,6 +94,11 @@ pub(crate) fn deal_territories(
     requires all { length territories.items ≡ 64 }
     ensures { IfOk result (λ v. AreDealt sweepers territories.items v.items) }
 {
+    // A territory is large: where nothing is to be collected, to move all of them would take longer than all else. One
+    // sweeper is given the list as it is.
+    if sweepers == 1 {
+        return deal_to_one(alloc, territories);
+    }
     let mut owns = none_yet(alloc, sweepers)?;
     let mut next = 0;
     for territory in territories {
@@ -89,26 +108,92 @@ pub(crate) fn deal_territories(
     Ok(owns)
 }
 
-/// The registers of a sweeper that hold objects, each with its number. Takes memory.
+/// The registers of one sweeper that hold objects, each with its number, in the order of the numbers.
+#[derive(Drop)]
+pub(crate) struct OwnRegisters {
+    registers: Vec<(u32, Value)>,
+}
+
+impl Model for OwnRegisters {
+    ghost use Rattle.collector.specs.Dealt.{NumberedValues};
+
+    ghost Value = { NumberedValues };
+
+    ghost view = { λ o. o.registers.items };
+}
+
+impl OwnRegisters {
+    /// No registers.
+    fn none(alloc: Global) -> OwnRegisters
+        ensures { result ≡ [] }
+    {
+        OwnRegisters {
+            registers: Vec::new(alloc),
+        }
+    }
+
+    /// Puts a register behind the others. Takes memory.
+    fn push(&mut self, register: u32, value: Value) -> Result<(), AllocError>
+        ensures { OnOk result (self.new ≡ self.old ++ (register, value) ∷ []) }
+    {
+        self.registers.push((register, value))?;
+        Ok(())
+    }
+
+    /// Takes all of them.
+    pub(crate) fn take(&mut self, alloc: Global) -> Vec<(u32, Value)>
+        ensures taken { result.items ≡ self.old }
+        ensures after { self.new ≡ [] }
+    {
+        replace(&mut self.registers, Vec::new(alloc))
+    }
+}
+
+/// A list without registers for each of `count` sweepers. Takes memory.
+fn no_registers(alloc: Global, count: u32) -> Result<Vec<OwnRegisters>, AllocError>
+    ensures { IfOk result (λ v. v.items ≡ replicate count []) }
+{
+    let mut owns = Vec::new(alloc);
+    for _ in 0..count {
+        owns.push(OwnRegisters::none(alloc))?;
+    }
+    Ok(owns)
+}
+
+/// The first register from one on that holds an object.
+// Most registers hold none, so nearly all the time is spent here. By itself the loop is a few instructions a register;
+// in a larger function it would share the machine's registers with the rest.
+#[inline(never)]
+fn next_object(registers: &[Value], from: usize) -> Option<usize>
+    ensures within { IfSome result (λ r. (from ≤ r) × (r < length registers.now)) }
+    ensures object { IfSome result (λ r. IsSome (object_in (slice_get registers.now r))) }
+    ensures first { IfSome result (λ r. HoldNone registers.now from r) }
+    ensures none { IfNone result (HoldNone registers.now from (length registers.now)) }
+{
+    for register in from..registers.len() {
+        if let Value::Object(_) = registers[register] {
+            return Some(register);
+        }
+    }
+    None
+}
+
+/// Deals the registers that hold objects out to so many sweepers, in one pass over all of them. Takes memory.
 pub(crate) fn deal_registers(
     alloc: Global,
     registers: &[Value],
-    number: u32,
     sweepers: u32,
-) -> Result<Vec<(u32, Value)>, AllocError>
-    requires number { number < sweepers }
-    requires sweepers { sweepers ≤ 64 }
+) -> Result<Vec<OwnRegisters>, AllocError>
+    requires sweepers { (1 ≤ sweepers) × (sweepers ≤ 64) }
     requires all { length registers.now ≡ 4096 }
-    ensures { IfOk result (λ v. AreRegistersDealtTo sweepers number registers.now v.items) }
+    ensures { IfOk result (λ v. AreRegistersDealt sweepers registers.now v.items) }
 {
-    let mut own = Vec::new(alloc);
-    let mut register = number;
-    while register < registers.len() as u32 {
-        let value = registers[register as usize];
-        if let Value::Object(_) = value {
-            own.push((register, value))?;
-        }
-        register += sweepers;
+    let mut owns = no_registers(alloc, sweepers)?;
+    let mut from = 0;
+    while let Some(register) = next_object(registers, from) {
+        let number = register % owns.len();
+        owns[number].push(register as u32, registers[register])?;
+        from = register + 1;
     }
-    Ok(own)
+    Ok(owns)
 }

@@ -53,6 +53,19 @@ pub(crate) fn end_all(
     Ok(owns)
 }
 
+/// The territories of all threads, where one sweeper has them.
+fn gather_from_one(owns: Vec<OwnTerritories>) -> Vec<Territory>
+    requires one { length owns.items ≡ 1 }
+    requires whole { AreWhole 1 owns.items }
+    ensures { AreGathered 1 owns.items result.items }
+{
+    let mut owns = owns;
+    let Some(own) = owns.pop() else {
+        unreachable!()
+    };
+    own.into_territories()
+}
+
 /// The territories of all threads, from those of the sweepers. Takes memory.
 pub(crate) fn gather_territories(
     alloc: Global,
@@ -62,6 +75,10 @@ pub(crate) fn gather_territories(
     requires whole { AreWhole (length owns.items) owns.items }
     ensures { IfOk result (λ v. AreGathered (length owns.items) owns.items v.items) }
 {
+    // One sweeper has all of them in order, and they need not be moved.
+    if owns.len() == 1 {
+        return Ok(gather_from_one(owns));
+    }
     let mut owns = owns;
     let mut territories = Vec::with_capacity(alloc, THREADS)?;
     let mut thread = THREADS;

@@ -57,10 +57,11 @@ fn make_sweepers(
     ensures { IfOk result (λ v. AreMade directory.now owns.items registers.now v.items) }
 {
     let count = directory.sweepers();
+    let mut dealt = deal_registers(alloc, registers, count)?;
     let mut number = 0;
     let mut sweepers = Vec::new(alloc);
     for own in owns {
-        let own_registers = deal_registers(alloc, registers, number, count)?;
+        let own_registers = dealt[number as usize].take(alloc);
         let territories = own.into_territories();
         sweepers.push(Sweeper::new(alloc, number, territories, own_registers, directory)?)?;
         number += 1;

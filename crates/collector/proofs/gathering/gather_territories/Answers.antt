@@ -39,21 +39,21 @@ pub unreachable-requires : goal.unreachable-requires
 unreachable-requires c =
     let owns = c.args.owns.items in
     let now = c.loop-thread.owns.items in
-    let same : c.len.result ≡ length owns = omega (arith, c.len.ensures, c.loop-thread.owns.ok.0) in
+    let same : c.len-in-loop-thread.result ≡ length owns = omega (arith, c.len-in-loop-thread.ensures, c.loop-thread.owns.ok.0) in
     not_empty (length owns) owns now c.loop-thread.territories.items c.loop-thread.thread c.requires.some
     c.requires.whole c.loop-thread.invariant (omega arith)
-    (sym (read_own now (c.loop-thread.thread - 1) (length owns) c.len.result c.index_mut.result.now
+    (sym (read_own now (c.loop-thread.thread - 1) (length owns) c.len-in-loop-thread.result c.index_mut.result.now
     c.requires.some c.loop-thread.invariant.count same c.index_mut.ensures.value) ∙ c.in_default.ensures.none)
 
 pub loop-thread-preserved : goal.loop-thread-preserved
 loop-thread-preserved c =
     let owns = c.args.owns.items in
     let now = c.loop-thread.owns.items in
-    let same : c.len.result ≡ length owns = omega (arith, c.len.ensures, c.loop-thread.owns.ok.0) in
-    one_more (length owns) c.len.result owns now c.loop-thread.territories.items c.push.new.self.items
+    let same : c.len-in-loop-thread.result ≡ length owns = omega (arith, c.len-in-loop-thread.ensures, c.loop-thread.owns.ok.0) in
+    one_more (length owns) c.len-in-loop-thread.result owns now c.loop-thread.territories.items c.push.new.self.items
     c.loop-thread.thread c.pop.new.self c.in-Some.territory c.requires.some same c.requires.whole
     c.loop-thread.invariant (omega arith)
-    (sym (read_own now (c.loop-thread.thread - 1) (length owns) c.len.result c.index_mut.result.now
+    (sym (read_own now (c.loop-thread.thread - 1) (length owns) c.len-in-loop-thread.result c.index_mut.result.now
     c.requires.some c.loop-thread.invariant.count same c.index_mut.ensures.value) ∙ c.in-Some.ensures.some)
     c.in_ok-push.ensures.items
 

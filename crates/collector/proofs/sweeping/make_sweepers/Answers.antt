@@ -1,7 +1,7 @@
 -- One more sweeper is made.
-use Rattle.std.proofs.Common.{◌≡◌, ℕ, ◌+◌, ◌<◌, List, [], ◌∷◌, ◌++◌, get_or, length, refl, sym, ◌∙◌, ap, subst, inl, inr, arith}
+use Rattle.std.proofs.Common.{◌≡◌, ℕ, ◌+◌, ◌<◌, ◌≤◌, List, [], ◌∷◌, ◌++◌, get_or, length, set, refl, sym, ◌∙◌, ap, subst, inl, inr, arith, get_or-set_other}
 use Rattle.std.proofs.lemmas.Bool.{cases_lt}
-use Rattle.std.proofs.lemmas.List.{get_or_append_left, get_or_push, get_or_read, length_push}
+use Rattle.std.proofs.lemmas.List.{get_or_append_left, get_or_push, get_or_read, length-set, length_push}
 use Rattle.std.proofs.lemmas.Iterator.Adapters.{YieldsList-from_vec}
 use Rattle.std.proofs.lemmas.Iterator.Consumers.{YieldsList-turn}
 use Rattle.gc_words.specs.declared.value.Value.{Value}
@@ -12,7 +12,7 @@ use Rattle.sweeper.specs.Sweepers.{SweeperView}
 use Rattle.sweeper.specs.Starting.{IsBeginning}
 use Rattle.sweep_rounds.specs.Turns.{sweeper_at}
 use Rattle.collector.specs.Begun.{IsMade}
-use Rattle.collector.specs.Dealt.{AreRegistersDealtTo, own_at}
+use Rattle.collector.specs.Dealt.{AreRegistersDealt, AreRegistersDealtTo, NumberedValues, own_at, registers_at}
 use Rattle.collector.proofs.sweeping.make_sweepers.Goals as goal
 
 made_more : (d : DirectoryView) (registers : List Value) (owns : List (List TerritoryView)) (own : List TerritoryView)
@@ -42,6 +42,49 @@ next_own : (owns : List (List TerritoryView)) (own : List TerritoryView) (number
 next_own owns own number n at turn =
     ap (own_at owns) at ∙ sym (get_or_read owns n own turn.0 turn.1 [])
 
+-- the registers of the sweepers from one on
+abbrev AreLeft : ℕ → ℕ → List Value → List NumberedValues → Type 0
+AreLeft n number registers dealt =
+    (k : ℕ) → number ≤ k → k < n → AreRegistersDealtTo n k registers (registers_at dealt k)
+
+-- those of the next one are taken
+own_dealt : (n number : ℕ) (registers : List Value) (dealt : List NumberedValues) (read own : NumberedValues)
+    → length dealt ≡ n → number < n → AreLeft n number registers dealt → read ≡ get_or dealt number read → own ≡ read
+    → AreRegistersDealtTo n number registers own
+own_dealt n number registers dealt read own count low left value is =
+    subst (AreRegistersDealtTo n number registers)
+    (sym (is ∙ get_or_read dealt number read (omega (arith, count, low)) value []))
+    (left number (omega arith) low)
+
+-- those of the others stay
+left_after : (n number : ℕ) (registers : List Value) (dealt : List NumberedValues) (rest : NumberedValues)
+    → AreLeft n number registers dealt → AreLeft n (number + 1) registers (set dealt number rest)
+left_after n number registers dealt rest left k after low =
+    subst (AreRegistersDealtTo n k registers)
+    (sym (get_or-set_other dealt number k rest [] (λ e. absurd (omega (arith, e, after)))))
+    (left k (omega (arith, after)) low)
+
+pub loop-own-init : goal.loop-own-init
+loop-own-init c =
+    let count : c.sweepers-count.result ≡ sweeper_count c.args.directory.now = c.sweepers-count.ensures.value in
+    let dealt : AreRegistersDealt (sweeper_count c.args.directory.now) c.args.registers.now c.in_ok-dealt.dealt.items =
+    subst (λ n. AreRegistersDealt n c.args.registers.now c.in_ok-dealt.dealt.items) count c.in_ok-dealt.ensures in
+    record {
+      at = refl;
+      count = ap length c.new-sweepers.ensures.items;
+      made = λ k e less. absurd (omega (arith, less));
+      dealt_count = dealt.count;
+      left = λ k from low. dealt.each k low;
+    }
+
+pub index_mut-requires : goal.index_mut-requires
+index_mut-requires c =
+    let gives = c.into_iter-own-iterator.ensures.into_iter_gives in
+    let turn = YieldsList-turn (YieldsList-from_vec {s = c.into_iter-own-iterator.result} c.args.owns.items gives.0 (gives.1 ∙ c.args.owns.ok.0))
+    c.loop-own.yielded c.loop-own.own-iterator c.loop-own.yielded_by c.next.result c.next.new.self c.in-Some.own
+    c.in-Some.is c.next.ensures.steps in
+    omega (arith, turn.0, c.loop-own.invariant.at, c.loop-own.invariant.dealt_count, c.requires.count, c.loop-own.dealt.ok.0)
+
 pub new-requires-clause-territories : goal.new-requires-clause-territories
 new-requires-clause-territories c =
     let gives = c.into_iter-own-iterator.ensures.into_iter_gives in
@@ -56,26 +99,35 @@ new-requires-clause-territories c =
 
 pub new-requires-clause-registers : goal.new-requires-clause-registers
 new-requires-clause-registers c =
-    let own : List (ℕ × Value) = c.in_ok-own_registers.own_registers.items in
-    let dealt : AreRegistersDealtTo (sweeper_count c.args.directory.now) c.loop-own.number c.args.registers.now own =
-    subst (λ n. AreRegistersDealtTo n c.loop-own.number c.args.registers.now own) c.sweepers-count.ensures.value
-    c.in_ok-own_registers.ensures in
-    dealt.are
+    let gives = c.into_iter-own-iterator.ensures.into_iter_gives in
+    let turn = YieldsList-turn (YieldsList-from_vec {s = c.into_iter-own-iterator.result} c.args.owns.items gives.0 (gives.1 ∙ c.args.owns.ok.0))
+    c.loop-own.yielded c.loop-own.own-iterator c.loop-own.yielded_by c.next.result c.next.new.self c.in-Some.own
+    c.in-Some.is c.next.ensures.steps in
+    let before = c.loop-own.invariant in
+    (own_dealt (sweeper_count c.args.directory.now) c.loop-own.number c.args.registers.now c.loop-own.dealt.items
+    c.index_mut.result.now c.take-own_registers.result.items before.dealt_count
+    (omega (arith, turn.0, before.at, c.requires.count)) before.left c.index_mut.ensures.value
+    c.take-own_registers.ensures.taken).are
 
 pub loop-own-preserved : goal.loop-own-preserved
 loop-own-preserved c =
+    let gives = c.into_iter-own-iterator.ensures.into_iter_gives in
+    let turn = YieldsList-turn (YieldsList-from_vec {s = c.into_iter-own-iterator.result} c.args.owns.items gives.0 (gives.1 ∙ c.args.owns.ok.0))
+    c.loop-own.yielded c.loop-own.own-iterator c.loop-own.yielded_by c.next.result c.next.new.self c.in-Some.own
+    c.in-Some.is c.next.ensures.steps in
     let d : DirectoryView = c.args.directory.now in
     let number : ℕ = c.loop-own.number in
     let own : List TerritoryView = c.in-Some.own in
-    let own_registers : List (ℕ × Value) = c.in_ok-own_registers.own_registers.items in
+    let own_registers : List (ℕ × Value) = c.take-own_registers.result.items in
     let v : SweeperView = c.in_ok-new.field-0 in
     let before = c.loop-own.invariant in
     let at : number ≡ length c.loop-own.yielded = before.at in
     let here : IsMade d own c.args.registers.now number v = record {
       own_registers = own_registers;
       dealt =
-          subst (λ n. AreRegistersDealtTo n number c.args.registers.now own_registers)
-          c.sweepers-count.ensures.value c.in_ok-own_registers.ensures;
+          own_dealt (sweeper_count d) number c.args.registers.now c.loop-own.dealt.items c.index_mut.result.now
+          own_registers before.dealt_count (omega (arith, turn.0, at, c.requires.count)) before.left
+          c.index_mut.ensures.value c.take-own_registers.ensures.taken;
       begun = λ world is_world beginning.
           c.in_ok-new.ensures.begun world is_world
           (subst (λ ts. IsBeginning world number d ts own_registers) (sym c.into_territories-territories.ensures)
@@ -93,4 +145,9 @@ loop-own-preserved c =
           c.in_ok-push.ensures.items (before.count ∙ at)
           (λ j f low. before.made j f (subst (λ n. j < n) (sym at) low))
           (subst (λ n. IsMade d own c.args.registers.now n v) at here) k e (subst (λ n. k < n + 1) at less);
+      dealt_count =
+          length-set c.loop-own.dealt.items number c.take-own_registers.new.self ∙ before.dealt_count;
+      left =
+          left_after (sweeper_count d) number c.args.registers.now c.loop-own.dealt.items
+          c.take-own_registers.new.self before.left;
     }
