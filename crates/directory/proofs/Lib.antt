@@ -7,4 +7,5 @@ pub mod Owners
 pub mod Ranges
 pub mod Shared
 pub mod Turning
+pub mod Spanning
 pub mod Reaching

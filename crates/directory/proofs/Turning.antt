@@ -1,26 +1,38 @@
--- An object's word with its tag turned to the top.
-use Rattle.std.proofs.Common.{◌≡◌, ℕ, ◌+◌, ◌-◌, ◌*◌, ◌/◌, ◌%◌, ◌^◌, ◌<◌, ◌≤◌, Some, IsTrue, bit_or, ltb, ◌∙◌, ap, arith}
+-- An object's word with its last four bits turned to the top.
+use Rattle.std.proofs.Common.{◌≡◌, ℕ, ◌+◌, ◌-◌, ◌*◌, ◌/◌, ◌%◌, ◌^◌, ◌<◌, ◌≤◌, ◌↔◌, Some, min, bit_or, ◌∙◌, ap, arith}
 use Rattle.std.proofs.lemmas.Bool.Decides.{nat_tests}
 use Rattle.std.specs.Int.Bits.{or_shifted_r}
 use Rattle.gc_words.specs.declared.value.Value.TheVariants.{Object}
 use Rattle.gc_words.specs.Word.{value_of}
-use Rattle.gc_words.proofs.WordLaws.{word_of-object}
+use Rattle.gc_words.specs.Layout.{address_of, thread_of, segment_of, offset_of}
+use Rattle.gc_words.proofs.LayoutLaws.{address_of-its_parts}
 
-object_small : (w a : ℕ) → w < 2 ^ 64 → value_of w ≡ Some (Object a) → a < 2 ^ 61
-object_small w a fits h = omega (arith, word_of-object w a h, fits)
+-- ---- which words refer to an object
+pub object_word : (w a : ℕ) → value_of w ≡ Some (Object a) → (w % 16 ≡ 1) × (a ≡ w / 8)
+unfolding value_of
+object_word w a e = (grind (arith, nat_tests, e), grind (arith, nat_tests, e))
 
-turned : (w a : ℕ) → w < 2 ^ 64 → value_of w ≡ Some (Object a) → bit_or (w / 2 ^ 3) (w * 2 ^ 61 % 2 ^ 64) ≡ 2 ^ 61 + a
-turned w a fits h =
-    let form : a * 8 + 1 ≡ w = word_of-object w a h in
-    let high : w / 2 ^ 3 ≡ a = omega (arith, form) in
-    let low : w * 2 ^ 61 % 2 ^ 64 ≡ 1 * 2 ^ 61 = omega (arith, form) in
-    ap (λ v. bit_or v (w * 2 ^ 61 % 2 ^ 64)) high ∙ (ap (bit_or a) low ∙ or_shifted_r 1 61 a (object_small w a fits h))
+pub word_object : (w : ℕ) → w % 16 ≡ 1 → value_of w ≡ Some (Object (w / 8))
+unfolding value_of
+word_object w e = grind (arith, nat_tests, e)
 
--- the distance from the least address of a reach
-pub refers : (w a least beyond turn size : ℕ) → w < 2 ^ 64 → value_of w ≡ Some (Object a) → least ≤ a → a < beyond → turn ≡ bit_or (w / 2 ^ 3) (w * 2 ^ 61 % 2 ^ 64) → size ≡ beyond - least → IsTrue (ltb ((turn + (2 ^ 64 - (2 ^ 61 + least) % 2 ^ 64)) % 2 ^ 64) size)
-refers w a least beyond turn size fits h low high by its_size =
-    let small : a < 2 ^ 61 = object_small w a fits h in
-    let at : turn ≡ 2 ^ 61 + a = by ∙ turned w a fits h in
-    let far : (turn + (2 ^ 64 - (2 ^ 61 + least) % 2 ^ 64)) % 2 ^ 64 ≡ a - least = omega (arith, at, small, low) in
-    let near : (turn + (2 ^ 64 - (2 ^ 61 + least) % 2 ^ 64)) % 2 ^ 64 < size = omega (arith, far, its_size, low, high) in
-    grind (arith, nat_tests, near)
+-- an address is its parts put together
+pub parts_out : (n : ℕ) → address_of (n / 8388608 / 4294967296) (n / 8388608 % 4294967296) (n % 8388608) ≡ n
+unfolding thread_of segment_of offset_of
+parts_out n = address_of-its_parts n
+
+-- ---- the comparison
+turned : (w : ℕ) → w < 2 ^ 64 → bit_or (w / 2 ^ 4) (w * 2 ^ 60 % 2 ^ 64) ≡ w % 16 * 2 ^ 60 + w / 16
+turned w fits =
+    let low : w * 2 ^ 60 % 2 ^ 64 ≡ w % 16 * 2 ^ 60 = omega arith in
+    ap (bit_or (w / 2 ^ 4)) low ∙ or_shifted_r (w % 16) 60 (w / 2 ^ 4) (omega (arith, fits))
+
+-- the distance from the first object of a reach tells whether a word refers to an object there
+pub near : (w least beyond turn first last end size : ℕ) → w < 2 ^ 64 → turn ≡ bit_or (w / 2 ^ 4) (w * 2 ^ 60 % 2 ^ 64) → first ≡ (least + 1) / 2 → last ≡ min beyond (2 ^ 61) → end ≡ (last + 1) / 2 → size ≡ end - first → (turn + (2 ^ 64 - (2 ^ 60 + first))) % 2 ^ 64 < size ↔ (w % 16 ≡ 1) × (least ≤ w / 8) × (w / 8 < beyond)
+near w least beyond turn first last end size fits by its_first its_last its_end its_size =
+    let at : turn ≡ w % 16 * 2 ^ 60 + w / 16 = by ∙ turned w fits in (
+      λ test.
+          let tag : w % 16 ≡ 1 = omega (arith, at, fits, its_first, its_last, its_end, its_size, test) in
+          (tag, omega (arith, at, tag, fits, its_first, its_last, its_end, its_size, test), omega (arith, at, tag, fits, its_first, its_last, its_end, its_size, test)),
+      λ o. omega (arith, at, fits, its_first, its_last, its_end, its_size, o.0, o.1, o.2),
+    )

@@ -1,8 +1,8 @@
 -- A walk over the from-segments of a territory that gives each its words.
-use Rattle.std.proofs.Common.{◌≡◌, ◌≢◌, ℕ, zero, suc, ◌+◌, ◌<◌, ◌≤◌, true, false, cond, eqb, List, [], ◌∷◌, ◌++◌, length, take, Option, Some, None, IfSome, refl, sym, ◌∙◌, ap, subst, arith, inl, inr}
+use Rattle.std.proofs.Common.{◌≡◌, ◌≢◌, ℕ, zero, suc, ◌+◌, ◌<◌, ◌≤◌, true, false, cond, eqb, List, [], ◌∷◌, ◌++◌, length, take, drop, Option, Some, None, IfSome, refl, sym, ◌∙◌, ap, subst, arith, inl, inr}
 use Rattle.std.proofs.lemmas.Bool.{cases_eq, cases_lt}
 use Rattle.std.proofs.lemmas.Bool.Decides.{nat_tests}
-use Rattle.std.proofs.lemmas.List.{take_more, take_all}
+use Rattle.std.proofs.lemmas.List.{take-append-drop, take_more, take_all}
 use Rattle.std.proofs.lemmas.Option.{same_Some, slice_get_within, get_or_from_slice_get}
 use Rattle.std.specs.List.{slice_get}
 use Rattle.seg_chain.specs.Lists.{times}
@@ -97,6 +97,14 @@ walked_none t table first at ones empty h =
 pub next_from_one : (t : TerritoryView) (table : List (Option FromSegment)) (first next : ℕ) (at : Option ℕ) (n : ℕ) → IsWalked t table first next at → at ≡ Some n → IsFrom (segment_at t n)
 next_from_one t table first next at n w s =
     w.ones.aside n (contains_of n (from_list t.lists) (in_at (from_list t.lists) w.place n (sym w.here ∙ s)))
+
+-- and has no entry yet
+pub unput : (t : TerritoryView) (table : List (Option FromSegment)) (first next : ℕ) (at : Option ℕ) (n : ℕ) → IsWalked t table first next at → at ≡ Some n → entry_in table n ≡ None
+unput t table first next at n w s =
+    let xs : List ℕ = from_list t.lists in
+    let cut : times n (take (w.place + 1) xs) + times n (drop (w.place + 1) xs) ≡ times n xs =
+    sym (times-append n (take (w.place + 1) xs) (drop (w.place + 1) xs)) ∙ ap (times n) (take-append-drop (w.place + 1) xs) in
+    w.rest n (omega (arith, cut, w.ones.once n, one_more xs w.place n n (sym w.here ∙ s), once_here n))
 
 aside_is : (o : Option SegmentView) (e : FromSegment) → IsFrom o → IfSome o (λ s. e.size ≡ s.words) → IfSome o (λ s. e.generation ≡ s.generation) → shown (Some e) ≡ aside o
 aside_is None e f a b = absurd f

@@ -1,5 +1,5 @@
 -- The from-segments of each thread by their numbers, and the words of each.
-use Rattle.std.specs.Prelude.{ℕ, ◌+◌, ◌/◌, ◌<◌, ◌≤◌, ◌==◌, if◌then◌else◌, nat_lt, List, [], slice_get, slice_index_or, Option, Some, None, IsSome}
+use Rattle.std.specs.Prelude.{ℕ, ◌+◌, ◌/◌, ◌<◌, ◌≤◌, ◌==◌, if◌then◌else◌, nat_lt, List, [], slice_get, slice_index_or, Option, Some, None}
 use Rattle.gc_words.specs.Layout.{thread_of, segment_of, offset_of}
 use Rattle.territory.specs.Territories.{SegmentView, TerritoryView, segment_at}
 use Rattle.directory.specs.declared.table.FromSegment.{FromSegment}
@@ -7,10 +7,6 @@ use Rattle.directory.specs.declared.table.FromSegment.{FromSegment}
 -- the from-segment of a number in a thread's table
 abbrev pub entry_in : List (Option FromSegment) → ℕ → Option FromSegment
 entry_in table segment = slice_index_or table segment None
-
--- no from-segment of a thread's table has a smaller number
-abbrev pub BeginsAt : List (Option FromSegment) → ℕ → Type 0
-BeginsAt table first = (n : ℕ) → IsSome (entry_in table n) → first ≤ n
 
 -- the from-segment of a number in the table of a thread
 abbrev pub entry_at : List (List (Option FromSegment)) → ℕ → ℕ → Option FromSegment

@@ -7,8 +7,8 @@ ghost use Rattle.directory.specs.Directories.{found_at, from_at, from_in, owner_
 ghost use Rattle.directory.specs.Reaches.{Reaches};
 
 use crate::numbering::{THREADS, number_threads};
-use crate::reach::{Reach, reach_of};
-use crate::table::{FromSegment, FromTable};
+use crate::reach::Reach;
+use crate::table::{FromSegment, FromTable, reach_of};
 use gc_words::Address;
 use std::alloc::{AllocError, Global};
 use std::marker::Model;
@@ -34,7 +34,7 @@ pub struct Directory {
     firsts: Vec<usize>,
     /// The from-segments of each thread.
     pub(crate) tables: Vec<FromTable>,
-    /// All of them lie within it.
+    /// From the first address in one of them to the last.
     reach: Reach,
 }
 
@@ -146,7 +146,7 @@ impl Directory {
         self.targets.cg
     }
 
-    /// Between which addresses all that is collected lies.
+    /// From the first collected address to the last.
     #[inline(always)]
     pub fn reach(&self) -> Reach
         ensures { Reaches result self.now }

@@ -9,8 +9,8 @@
 //! Invariant: the words of a from-segment lie in the range of its owner, and no two have a word in common.
 //! `new` alone takes memory. No call searches: a look-up is an index by thread and one by segment number, and
 //! `find` tells by one look-up all that a collection wants to know of a reference. `find_near` needs none where
-//! the reference before it led into the same from-segment. Most words refer to nothing collected: `reach` says
-//! between which addresses all of that lies, and `Reach::may_refer` tells by one comparison of a word.
+//! the reference before it led into the same from-segment. Most words refer to nothing collected: `reach` goes
+//! from the first collected address to the last, and `Reach::object` passes over other words by a comparison.
 #![tactic(auto)]
 
 mod directory;

@@ -81,6 +81,12 @@ fn seen_near(directory: &Directory, near: &mut Near, at: Address) -> Option<(u8,
     Some((found.generation, found.word, near.target))
 }
 
+/// The parts of the address to which a word refers within a reach.
+fn referred(reach: Reach, word: u64) -> Option<(u8, u64, u32)> {
+    let at = reach.object(word)?;
+    Some((at.thread(), at.segment(), at.offset()))
+}
+
 /// The first word and the range of a sweeper, where there is one of this number.
 fn range(directory: &Directory, sweeper: u32) -> Option<(usize, usize)> {
     if sweeper < directory.sweepers() {
@@ -164,22 +170,44 @@ fn what_lies_near(rt: HostRuntime) -> Result<(), Fail> {
 }
 
 #[test]
-fn which_words_may_refer(rt: HostRuntime) -> Result<(), Fail> {
-    let reach = Reach {
-        least: 16,
-        beyond: 32,
-    };
-    for (word, expected) in [
-        (113, false),
-        (129, true),
-        (241, true),
-        (257, false),
-        (128, false),
-        (134, false),
-        (0, false),
-        (18446744073709551615, false),
+fn which_words_refer(rt: HostRuntime) -> Result<(), Fail> {
+    for (least, beyond, word, expected) in [
+        (16, 32, 113, None),
+        (16, 32, 121, None),
+        (16, 32, 129, Some((0, 0, 16))),
+        (16, 32, 137, None),
+        (16, 32, 241, Some((0, 0, 30))),
+        (16, 32, 249, None),
+        (16, 32, 257, None),
+        (16, 32, 128, None),
+        (16, 32, 134, None),
+        (16, 32, 0, None),
+        (16, 32, 18446744073709551615, None),
+        (15, 33, 113, None),
+        (15, 33, 121, None),
+        (15, 33, 257, Some((0, 0, 32))),
+        (15, 33, 273, None),
+        (17, 18, 129, None),
+        (17, 18, 145, None),
+        (16, 16, 129, None),
+        (32, 16, 129, None),
+        (32, 16, 257, None),
+        (18446744073709551615, 0, 1, None),
+        (18446744073709551615, 0, 18446744073709551601, None),
+        (0, 18446744073709551615, 1, Some((0, 0, 0))),
+        (
+            0,
+            18446744073709551615,
+            18446744073709551601,
+            Some((63, 4294967295, 8388606)),
+        ),
+        (0, 18446744073709551615, 18446744073709551609, None),
     ] {
-        assert_eq!(rt; reach.may_refer(word), expected, "{word}");
+        assert_eq!(rt;
+            referred(Reach { least, beyond }, word),
+            expected,
+            "{least} {beyond} {word}"
+        );
     }
     Ok(())
 }
@@ -189,22 +217,25 @@ fn what_is_within_reach(rt: HostRuntime) -> Result<(), Fail> {
     let alloc = rt.alloc();
     let territories = all_begun(alloc, TARGETS)?;
     let reach = Directory::new(alloc, &territories, TARGETS, 1)?.reach();
+    assert_eq!(rt; (reach.least, reach.beyond), (0, 180143985103208650));
     for (thread, segment, offset, expected) in [
         (0, 0, 0, true),
-        (0, 1, 200, true),
-        (5, 1, 8388606, true),
+        (0, 1, 202, true),
+        (2, 0, 0, true),
+        (5, 1, 200, true),
+        (5, 1, 202, false),
         (5, 2, 0, false),
         (63, 4294967295, 8388606, false),
     ] {
         let at = Address::new(thread, segment, offset).ok_or("an address")?;
         assert_eq!(rt;
-            reach.may_refer(encode(Value::Object(at))),
+            reach.object(encode(Value::Object(at))).is_some(),
             expected,
             "{thread} {segment} {offset}"
         );
     }
-    assert!(rt; !reach.may_refer(encode(Value::Nil)));
-    assert!(rt; !reach.may_refer(encode(Value::Fixnum(1))));
+    assert_eq!(rt; reach.object(encode(Value::Nil)), None);
+    assert_eq!(rt; reach.object(encode(Value::Fixnum(1))), None);
     Ok(())
 }
 

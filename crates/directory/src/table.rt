@@ -1,8 +1,11 @@
 //! The from-segments of one thread, by their numbers.
 
-ghost use Rattle.std.specs.Prelude.{◌≡◌, ◌≢◌, ◌+◌, ◌^◌, ◌<◌, ◌≤◌, ℕ, [], Some, IsSome, OnOk};
+ghost use Rattle.std.specs.Prelude.{◌≡◌, ◌≢◌, ◌+◌, ◌^◌, ◌<◌, ◌≤◌, ℕ, [], length, None, Some, OnOk};
+ghost use Rattle.directory.specs.Reaches.{LiesInTable, ReachesIn, Spans};
 ghost use Rattle.directory.specs.Tables.{entry_in, run_of, word_at};
 
+use crate::reach::Reach;
+use gc_words::{OFFSETS, SEGMENTS};
 use std::alloc::{AllocError, Global};
 use std::marker::Model;
 
@@ -49,20 +52,32 @@ impl FromSegment {
 #[derive(Drop)]
 pub struct FromTable {
     entries: Vec<Option<FromSegment>>,
-    /// No from-segment has a smaller number. The greatest number while there is none.
-    first: usize,
+    /// What they would reach as those of thread 0.
+    reach: Reach,
 }
 
 impl Model for FromTable {
     ghost use Rattle.std.specs.Prelude.{List, Option};
     ghost use Rattle.directory.specs.declared.table.FromSegment.{FromSegment};
-    ghost use Rattle.directory.specs.Tables.{BeginsAt};
+    ghost use Rattle.directory.specs.Reaches.{LiesInTable, Spans};
 
     ghost Value = { List (Option FromSegment) };
 
     ghost view = { λ t. t.entries.items };
 
-    ghost invariant = { λ t. BeginsAt t.entries.items t.first };
+    ghost invariant = { λ t. Spans t.reach (LiesInTable t.entries.items 0) };
+}
+
+/// Makes entries long enough for a number. Takes memory where they are not.
+fn lengthen(entries: &mut Vec<Option<FromSegment>>, segment: usize) -> Result<(), AllocError>
+    ensures long { OnOk result (segment < length entries.new.items) }
+    ensures same { (n : ℕ) → entry_in entries.new.items n ≡ entry_in entries.old.items n }
+{
+    if entries.len() <= segment {
+        let length = segment.checked_add(1).ok_or(AllocError)?;
+        entries.resize(length, None)?;
+    }
+    Ok(())
 }
 
 impl FromTable {
@@ -72,30 +87,35 @@ impl FromTable {
     {
         FromTable {
             entries: Vec::new(alloc),
-            first: usize::MAX,
+            reach: Reach::none(),
         }
     }
 
-    /// Puts a from-segment at its number. Takes memory where the table is too short.
+    /// Puts a from-segment at its number, where none is. Takes memory where the table is too short.
     pub fn put(&mut self, segment: usize, from: FromSegment) -> Result<(), AllocError>
+        requires { entry_in self.old segment ≡ None }
         ensures here { OnOk result (entry_in self.new segment ≡ Some from) }
         ensures others { OnOk result ((n : ℕ) → n ≢ segment → entry_in self.new n ≡ entry_in self.old n) }
     {
-        if self.entries.len() <= segment {
-            let length = segment.checked_add(1).ok_or(AllocError)?;
-            self.entries.resize(length, None)?;
-        }
+        lengthen(&mut self.entries, segment)?;
         self.entries[segment] = Some(from);
-        self.first = self.first.min(segment);
+        self.reach = self
+            .reach
+            .with(Reach::of_segment(segment as u64, from.size));
         Ok(())
     }
 
-    /// The least number of a from-segment, and one beyond the greatest. Where there is none, the second is not
-    /// greater than the first.
-    pub fn numbers(&self) -> (usize, usize)
-        ensures { (n : ℕ) → IsSome (entry_in self.now n) → (result.0 ≤ n) × (n < result.1) }
+    /// What they reach as those of a thread.
+    fn reach(&self, thread: u64) -> Reach
+        requires { thread < 64 }
+        ensures { Spans result (LiesInTable self.now thread) }
     {
-        (self.first, self.entries.len())
+        // An empty reach may have ends that are too great for a sum, and stays empty.
+        let first = thread * SEGMENTS * OFFSETS;
+        Reach {
+            least: first.saturating_add(self.reach.least),
+            beyond: first.saturating_add(self.reach.beyond),
+        }
     }
 
     /// The from-segment of a number. None where the number is of no from-segment.
@@ -109,4 +129,16 @@ impl FromTable {
             None
         }
     }
+}
+
+/// The reach of all from-segments, by the tables of all threads.
+pub fn reach_of(tables: &[FromTable]) -> Reach
+    requires { length tables.now ≡ 64 }
+    ensures { ReachesIn result tables.now }
+{
+    let mut reach = Reach::none();
+    for (thread, table) in tables.iter().enumerate() {
+        reach = reach.with(table.reach(thread as u64));
+    }
+    reach
 }

@@ -1,18 +1,25 @@
 -- What a field asks for, as the code finds it.
-use Rattle.std.proofs.Common.{◌≡◌, ℕ, Bool, true, false, List, [], ◌∷◌, ◌++◌, Some, IsTrue, sym, ap, subst, ◌∙◌}
+use Rattle.std.proofs.Common.{◌≡◌, ℕ, Bool, true, false, cond, List, [], ◌∷◌, ◌++◌, Option, Some, None, IsSome, is_some, IsTrue, refl, sym, ap, subst, ◌∙◌}
 use Rattle.std.proofs.lemmas.Bool.{false≢true}
 use Rattle.std.proofs.lemmas.Option.{same_Some}
 use Rattle.gc_mail.specs.declared.message.Message.{Message}
 use Rattle.gc_mail.specs.declared.message.Message.TheVariants as message
 use Rattle.gc_mail.specs.declared.message.Slot.TheVariants as back
 use Rattle.gc_mail.specs.Recipients.{owner}
+use Rattle.gc_words.specs.declared.value.Value.{Value}
+use Rattle.gc_words.specs.declared.value.Value.TheVariants as value
+use Rattle.gc_words.specs.Word.{value_of}
 use Rattle.territory.specs.Finishing.{target_of}
 use Rattle.directory.specs.declared.table.FromSegment.{FromSegment}
 use Rattle.directory.specs.declared.directory.Found.{Found}
 use Rattle.directory.specs.Directories.{DirectoryView, found_at, from_at}
+use Rattle.directory.specs.declared.reach.Reach.{Reach}
+use Rattle.directory.specs.Reaches.{IsWithinReach, Reaches}
 use Rattle.directory.proofs.Finding.{found_some}
+use Rattle.directory.proofs.Reaching.{collected_within}
+use Rattle.sweep_model.specs.World.{object_in}
 use Rattle.sweep_share.specs.Shares.{start_in}
-use Rattle.sweeper.specs.Sweepers.{CanKeep, FieldDone, IsForeign, IsKept, IsOwn, Puts, SweeperView, asked_in, sends}
+use Rattle.sweeper.specs.Sweepers.{CanKeep, FieldDone, IsForeign, IsKept, IsOwn, Puts, SweeperView, asked_by, asked_in, if_aside, sends}
 
 -- ---- what the directory told
 
@@ -32,6 +39,24 @@ goes_to_target v d t refers found c same is target =
     let lies : from_at d t ≡ Some c.from = ap (λ z. from_at z t) (sym same) ∙ c.lies in
     target ∙ ap (λ (z : DirectoryView). target_of z.targets found.generation) (sym same)
     ∙ ap (target_of v.places.directory.targets) (found_is d t c.from found lies is ∙ c.same)
+
+-- ---- which words are passed over
+
+-- what refers to no object within the reach of all that is collected refers to nothing collected
+refers_none : (d : DirectoryView) (r : Reach) (o : Option Value) → Reaches r d
+    → ((a : ℕ) → o ≡ Some (value.Object a) → IsWithinReach r a → ⊥) → if_aside d (object_in o) ≡ None
+refers_none d r (Some (value.Object a)) reaches none =
+    at (from_at d a) (λ lies. none a refl (collected_within d r a reaches lies))
+  where
+    at : (from : Option FromSegment) → (IsSome from → ⊥) → cond (is_some from) (Some a) None ≡ None
+    at None never = refl
+    at (Some from) never = absurd (never refl)
+refers_none d r o reaches none = refl
+
+-- a word that refers to no object within the reach asks for nothing
+pub passed_over : (d : DirectoryView) (r : Reach) (word : ℕ) → Reaches r d
+    → ((a : ℕ) → value_of word ≡ Some (value.Object a) → IsWithinReach r a → ⊥) → asked_by d word ≡ None
+passed_over d r word reaches none = refers_none d r (value_of word) reaches none
 
 -- ---- what a field becomes
 

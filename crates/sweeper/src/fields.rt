@@ -86,18 +86,16 @@ pub(crate) fn first_asked(
     let reach = directory.reach();
     for index in from..end {
         let word = words[index as usize];
-        if !reach.may_refer(word) {
+        let Some(target) = reach.object(word) else {
             continue;
-        }
-        if let Some(target) = referred(word) {
-            if let Some(found) = directory.find_near(near, target) {
-                return Some(Asked {
-                    index,
-                    target,
-                    found,
-                    refers: near.target,
-                });
-            }
+        };
+        if let Some(found) = directory.find_near(near, target) {
+            return Some(Asked {
+                index,
+                target,
+                found,
+                refers: near.target,
+            });
         }
     }
     None

@@ -1,7 +1,16 @@
 use Rattle.std.proofs.Common.{◌+◌, ◌<◌, ◌^◌, refl, subst, ◌∙◌, ap}
 use Rattle.std.specs.Option.{SomeIff}
-use Rattle.directory.proofs.Walk.{next_from_one, walked_more, walked_falls, walked_all}
+use Rattle.directory.proofs.Walk.{next_from_one, unput, walked_more, walked_falls, walked_all}
 use Rattle.directory.proofs.numbering.number_segments.Goals as goal
+
+pub from_words-size-requires : goal.from_words-size-requires
+from_words-size-requires c = next_from_one _ _ _ _ _ _ c.loop-at.invariant c.in-Some.is
+
+pub from_generation-requires : goal.from_generation-requires
+from_generation-requires c = next_from_one _ _ _ _ _ _ c.loop-at.invariant c.in-Some.is
+
+pub put-requires : goal.put-requires
+put-requires c = unput _ _ _ _ _ _ c.loop-at.invariant c.in-Some.is
 
 pub next_from-at-requires : goal.next_from-at-requires
 next_from-at-requires c = next_from_one _ _ _ _ _ _ c.loop-at.invariant c.in-Some.is
