@@ -210,7 +210,7 @@ source_fits q from k size h e start z =
       | inr far ↦ absurd (s.1 (get_or_past q.births k 0 far))
     ]
 
-run_seen : (q from : Segment) (k size : ℕ) → q ≡ from → size ≡ size_at from k → take size (drop (2 * k) q.words) ≡ run_at from k
+pub run_seen : (q from : Segment) (k size : ℕ) → q ≡ from → size ≡ size_at from k → take size (drop (2 * k) q.words) ≡ run_at from k
 run_seen q from k size e z = ap (λ v. take v (drop (2 * k) q.words)) z ∙ ap (λ (v : Segment). take (size_at from k) (drop (2 * k) v.words)) e
 
 birth_seen : (p now q from : Segment) (k size birth : ℕ) (words : List ℕ) → IsSource p now q from k size birth words → birth ≡ get_or from.births k 0

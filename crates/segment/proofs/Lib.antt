@@ -7,3 +7,4 @@ pub mod Scans
 pub mod Copies
 pub mod Aging
 pub mod Tallies
+pub mod Openings

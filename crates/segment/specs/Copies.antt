@@ -1,6 +1,6 @@
 -- Copies of objects: all words of one at once.
 use Rattle.std.specs.Prelude.{ℕ, ◌+◌, ◌*◌, ◌/◌, List, ◌++◌, length, slice_index, slice_set, take, drop}
-use Rattle.segment.specs.Segments.{Segment, size_at}
+use Rattle.segment.specs.Segments.{Segment, size_at, opened}
 
 -- all words of start k, its header among them
 abbrev pub run_at : Segment → ℕ → List ℕ
@@ -21,3 +21,7 @@ with_run p run birth = record p {
 -- with a copy of start k of segment q at the top
 abbrev pub with_copy : Segment → Segment → ℕ → Segment
 with_copy p q k = with_run p (run_at q k) (slice_index q.births k)
+
+-- a segment of just its size that has a copy of start k of segment q alone
+abbrev pub opened_copy : Segment → ℕ → ℕ → Segment
+opened_copy q k generation = with_copy (opened q.space generation (size_at q k) 1) q k

@@ -7,7 +7,7 @@
 //! Invariant: the objects lie apart and below the top; above it all words and births are 0, so a new object
 //! needs its first word and its birth alone; and a segment that is not dirty has clean cards alone. A
 //! segment that was given back has no objects whatever its memory holds: giving back is a few flags, and
-//! only the memory of a large object goes at once. `vacant` and `open` alone take memory.
+//! only the memory of a large object goes at once. `vacant`, `open` and `open_copy` alone take memory.
 #![tactic(auto)]
 
 mod layout;

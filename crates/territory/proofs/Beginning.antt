@@ -1,5 +1,5 @@
 -- The segments of a generation are set aside.
-use Rattle.std.proofs.Common.{◌≡◌, ◌≢◌, ℕ, suc, ◌+◌, ◌-◌, ◌%◌, ◌<◌, Bool, false, cond, eqb, ◌&&◌, List, [], ◌∷◌, ◌++◌, length, get_or, Option, Some, None, refl, sym, ◌∙◌, ap, subst, arith, inl, inr}
+use Rattle.std.proofs.Common.{◌≡◌, ◌≢◌, ℕ, suc, ◌+◌, ◌-◌, ◌%◌, ◌<◌, Bool, false, cond, eqb, ◌&&◌, List, [], ◌∷◌, ◌++◌, length, get_or, set, Option, Some, None, refl, sym, ◌∙◌, ap, subst, arith, inl, inr, true, is_some}
 use Rattle.std.proofs.lemmas.Bool.{cases_eq, cases_lt}
 use Rattle.std.proofs.lemmas.List.Sums.{sum_by-cons}
 use Rattle.std.proofs.lemmas.Option.{get_or_from_slice_get, slice_get_within, slice_get-get_or}
@@ -13,6 +13,8 @@ use Rattle.segment.specs.Segments.{Segment, IsSound, is_free, spot, set_aside}
 use Rattle.segment.proofs.Collected.{IsSound-aside}
 use Rattle.territory.specs.Pools.{PoolView, numbered, list_of, list_for, IsIn, IsOpenFor, IsSettled, used_words, is_held, cells_in, shows_dirty}
 use Rattle.territory.specs.Changes.{AreSetAside, AreClosed}
+use Rattle.std.proofs.lemmas.List.{append-nil, set-get_or}
+use Rattle.territory.proofs.Listing.{listed_at, in_use_linked}
 
 -- what a segment that is set aside keeps
 pub record IsKept (p q : Segment) : Type 0 where
@@ -150,3 +152,47 @@ settled_set_aside p now g h i segments areas lists closed e done small eh ei a c
     let to : 1 + h + 9 ≡ 10 + g = omega arith in
     settled_aside p now g segments areas lists closed e done small (subst (λ v. AreSetAside p.segments segments (chain_of p.lists (1 + v))) eh a) (subst (λ v. AreClosed p.areas areas v 8 closed) ei c)
     (is ∙ (ap (λ v. spliced p.lists (1 + h) v) to ∙ ap (λ v. spliced p.lists (1 + v) (10 + g)) eh)) links once
+
+-- ---- a generation without segments
+
+nothing : (o : Option ℕ) → ((n : ℕ) → o ≡ Some n → ⊥) → o ≡ None
+nothing None h = refl
+nothing (Some n) h = absurd (h n refl)
+
+no_first : (xs : List ℕ) (r : Option ℕ) → r ≡ slice_get xs 0 → is_some r ≡ false → xs ≡ []
+no_first [] r e n = refl
+no_first (x ∷ xs) r e n = absurd (let c : true ≡ false = sym (ap is_some e) ∙ n in cc)
+
+-- an empty chain appended to another leaves the chains as they are
+spliced_none : (lists : List (List ℕ)) (from to : ℕ) → chain_of lists from ≡ [] → lists ≡ spliced lists from to
+spliced_none lists from to e =
+    let kept : set lists from [] ≡ lists = ap (set lists from) (sym e) ∙ set-get_or lists from [] in
+    let rest : chain_of lists to ++ chain_of lists from ≡ chain_of lists to = ap (λ v. chain_of lists to ++ v) e ∙ append-nil (chain_of lists to) in
+    sym (ap (λ v. set v to (chain_of lists to ++ chain_of lists from)) kept ∙ (ap (set lists to) rest ∙ set-get_or lists to []))
+
+-- an open area names a segment of its generation, which stands in the list of the generation
+open_listed : (p : PoolView) (k n : ℕ) → IsSettled p → slice_get p.areas k ≡ Some (Some n) → IsIn p.lists (1 + k % 9) n
+open_listed p k n t h =
+    let o : IsOpenFor (numbered p.segments n) k = t.open_areas.fits k n h in
+    let at : list_of (numbered p.segments n) ≡ 1 + k % 9 = ap (λ r. list_for r (numbered p.segments n).generation) o.current ∙ ap (λ g. 1 + g) o.generation_is in
+    let linked : n < link_count p.lists = in_use_linked p.segments p.lists n t.listed (λ z. absurd (omega arith)) in
+    subst (λ v. IsIn p.lists v n) at (listed_at p.segments p.lists n t.listed linked)
+
+-- so a generation without segments has no open area
+closed_none : (p : PoolView) (g : ℕ) → IsSettled p → chain_of p.lists (1 + g) ≡ [] → AreClosed p.areas p.areas g 8 0
+closed_none p g t e = record {
+  same = refl;
+  inside = λ k same below. nothing (get_or p.areas k None) (λ n h.
+      let here : slice_get p.areas k ≡ Some (Some n) = slice_get-get_or p.areas k None (omega (arith, t.open_areas.count)) ∙ ap Some h in
+      let i : IsIn p.lists (1 + g) n = subst (λ v. IsIn p.lists (1 + v) n) same (open_listed p k n t here) in
+      absurd (omega (arith, i, ap (times n) e)));
+  outside = λ k far. refl;
+  counted = omega arith;
+}
+
+-- what then is so of a pool whose list has no first number
+pub none_aside : (p now : PoolView) (g h : ℕ) (first : Option ℕ) → p ≡ now → IsSettled now → h ≡ g → first ≡ slice_get (chain_of p.lists (1 + h)) 0 → is_some first ≡ false
+    → (now.lists ≡ spliced now.lists (1 + g) (10 + g)) × AreClosed now.areas now.areas g 8 0
+none_aside p now g h first e t eh is none =
+    let empty : chain_of now.lists (1 + g) ≡ [] = no_first (chain_of now.lists (1 + g)) first (is ∙ (ap (λ v. slice_get (chain_of p.lists (1 + v)) 0) eh ∙ ap (λ (v : PoolView). slice_get (chain_of v.lists (1 + g)) 0) e)) none in
+    (spliced_none now.lists (1 + g) (10 + g) empty, closed_none now g t empty)

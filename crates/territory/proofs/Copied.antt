@@ -18,30 +18,39 @@ use Rattle.territory.proofs.Opening.{open_changed}
 use Rattle.territory.proofs.Counting.{counted_changed}
 use Rattle.territory.proofs.Grown.{one_more, cells_more, used_same}
 
--- ---- from one segment to another: the list of segments is cut in two between them
-pub copied_up : (segments front back : List Segment) (from k n : ℕ) (p q new : Segment) → segments ≡ front ++ back → length front ≡ n → n < length segments → from < n
-    → new ≡ with_copy (get_or back 0 p) (get_or front from q) k → front ++ set back 0 new ≡ with_copied segments from k n
-copied_up segments front back from k n p q new e l within lt is =
+-- ---- from one segment to another: the list of segments is cut in two between them, and the one of number n becomes
+-- F of itself and of the other
+
+pub changed_up : (F : Segment → Segment → Segment) (segments front back : List Segment) (from n : ℕ) (p q new : Segment) → segments ≡ front ++ back → length front ≡ n → n < length segments → from < n
+    → new ≡ F (get_or back 0 p) (get_or front from q) → front ++ set back 0 new ≡ set segments n (F (numbered segments n) (numbered segments from))
+changed_up F segments front back from n p q new e l within lt is =
     let some : 0 < length back = omega (arith, ap length e, length-append front back) in
     let zero : n - n ≡ 0 = omega arith in
     let at_p : get_or back 0 p ≡ numbered segments n =
     get_or_default back 0 p vacant some ∙ (ap (λ v. get_or back v vacant) (sym zero) ∙ (sym (get_or-append_right front back n n vacant l (omega arith)) ∙ ap (λ v. numbered v n) (sym e))) in
     let at_q : get_or front from q ≡ numbered segments from = get_or_default front from q vacant (omega arith) ∙ (sym (get_or_append_left front back vacant from (omega arith)) ∙ ap (λ v. numbered v from) (sym e)) in
-    let new_is : new ≡ with_copy (numbered segments n) (numbered segments from) k = is ∙ (ap (λ v. with_copy v (get_or front from q) k) at_p ∙ ap (λ v. with_copy (numbered segments n) v k) at_q) in
+    let new_is : new ≡ F (numbered segments n) (numbered segments from) = is ∙ (ap (λ v. F v (get_or front from q)) at_p ∙ ap (F (numbered segments n)) at_q) in
     ap (λ v. front ++ set back v new) (sym zero) ∙ (sym (set-append_right front back n n new l (omega arith)) ∙ (ap (λ v. set v n new) (sym e) ∙ ap (set segments n) new_is))
 
-pub copied_down : (segments front back : List Segment) (from k n : ℕ) (p q new : Segment) → segments ≡ front ++ back → length front ≡ from → IsStart (numbered segments from) k → from ≢ n → n ≤ from
-    → new ≡ with_copy (get_or front n p) (get_or back 0 q) k → set front n new ++ back ≡ with_copied segments from k n
-copied_down segments front back from k n p q new e l start apart le is =
-    let within : from < length segments = used_within segments from start.0 in
-    let lt : n < from = omega arith in
+pub changed_down : (F : Segment → Segment → Segment) (segments front back : List Segment) (from n : ℕ) (p q new : Segment) → segments ≡ front ++ back → length front ≡ from → from < length segments → n < from
+    → new ≡ F (get_or front n p) (get_or back 0 q) → set front n new ++ back ≡ set segments n (F (numbered segments n) (numbered segments from))
+changed_down F segments front back from n p q new e l within lt is =
     let some : 0 < length back = omega (arith, ap length e, length-append front back) in
     let zero : from - from ≡ 0 = omega arith in
     let at_q : get_or back 0 q ≡ numbered segments from =
     get_or_default back 0 q vacant some ∙ (ap (λ v. get_or back v vacant) (sym zero) ∙ (sym (get_or-append_right front back from from vacant l (omega arith)) ∙ ap (λ v. numbered v from) (sym e))) in
     let at_p : get_or front n p ≡ numbered segments n = get_or_default front n p vacant (omega arith) ∙ (sym (get_or_append_left front back vacant n (omega arith)) ∙ ap (λ v. numbered v n) (sym e)) in
-    let new_is : new ≡ with_copy (numbered segments n) (numbered segments from) k = is ∙ (ap (λ v. with_copy v (get_or back 0 q) k) at_p ∙ ap (λ v. with_copy (numbered segments n) v k) at_q) in
+    let new_is : new ≡ F (numbered segments n) (numbered segments from) = is ∙ (ap (λ v. F v (get_or back 0 q)) at_p ∙ ap (F (numbered segments n)) at_q) in
     sym (set-append_left front back n new (omega arith)) ∙ (ap (λ v. set v n new) (sym e) ∙ ap (set segments n) new_is)
+
+pub copied_up : (segments front back : List Segment) (from k n : ℕ) (p q new : Segment) → segments ≡ front ++ back → length front ≡ n → n < length segments → from < n
+    → new ≡ with_copy (get_or back 0 p) (get_or front from q) k → front ++ set back 0 new ≡ with_copied segments from k n
+copied_up segments front back from k n p q new e l within lt is = changed_up (λ v w. with_copy v w k) segments front back from n p q new e l within lt is
+
+pub copied_down : (segments front back : List Segment) (from k n : ℕ) (p q new : Segment) → segments ≡ front ++ back → length front ≡ from → IsStart (numbered segments from) k → from ≢ n → n ≤ from
+    → new ≡ with_copy (get_or front n p) (get_or back 0 q) k → set front n new ++ back ≡ with_copied segments from k n
+copied_down segments front back from k n p q new e l start apart le is =
+    changed_down (λ v w. with_copy v w k) segments front back from n p q new e l (used_within segments from start.0) (omega arith) is
 
 -- ---- the pool stays settled
 

@@ -5,7 +5,7 @@ use Rattle.std.proofs.lemmas.Bool.{cases_eq}
 use Rattle.std.proofs.lemmas.Option.{same_Some}
 use Rattle.std.specs.FinMap.{get, insert}
 use Rattle.gc_words.specs.declared.address.TheConstants.{SEGMENTS, OFFSETS}
-use Rattle.gc_words.specs.Layout.{segment_of, offset_of}
+use Rattle.gc_words.specs.Layout.{address_of, segment_of, offset_of}
 use Rattle.trace_types.specs.declared.kind.Kind.TheVariants as kind
 use Rattle.segment.specs.declared.space.Space.{Space}
 use Rattle.segment.specs.declared.space.Space.TheVariants as space
@@ -17,14 +17,15 @@ use Rattle.segment.proofs.Spots.{spot_is, spot_top, start_in}
 use Rattle.territory.specs.declared.territory.Targets.{Targets}
 use Rattle.territory.specs.Territories.{SegmentView, TerritoryView, segment_at, size_for, words_for, IsPlaced, Refers, AreCardsSound, card_byte, byte_at}
 use Rattle.territory.specs.Pools.{PoolView, IsSettled, AreUsed, numbered, starts_of, seen, is_from_role, territory_view}
-use Rattle.territory.specs.Changes.{IsRoom}
-use Rattle.territory.specs.Copies.{with_copied, copy_in, IsPlacedLike, RefersToNoneBelow}
+use Rattle.territory.specs.Changes.{IsOpened, IsRoom}
+use Rattle.territory.specs.Copies.{with_copied, copy_in, IsLargeCopy, IsPlacedLike, RefersToNoneBelow}
 use Rattle.territory.proofs.Numbers.{numbered-set_same, numbered-set_other, seen_at}
 use Rattle.territory.proofs.Entries.{get-starts}
 use Rattle.territory.proofs.Slots.{all_small, IsSlot, start_here, changed_map, get_here, get_other}
 use Rattle.territory.proofs.Present.{IsPresent, present}
 use Rattle.territory.proofs.Reading.{IsReached, reach, if_some}
-use Rattle.territory.proofs.Allocated.{mid_spot, mid_other, used, if_seen, seen_current, seen_opened, seen_free, none_some, some_none}
+use Rattle.territory.proofs.Roomy.{room_large}
+use Rattle.territory.proofs.Allocated.{address_is, mid_spot, mid_other, used, if_seen, seen_current, seen_opened, seen_free, none_some, some_none}
 use Rattle.territory.proofs.Copied.{CanCopy, copy_other, copy_here, copy_words}
 
 pub record IsCopied (old mid new : PoolView) (from k g size n : ℕ) : Type 0 where
@@ -292,3 +293,21 @@ pub told_sound : (thread : ℕ) (targets : Targets) (now : TerritoryView) (old m
 told_sound thread targets now old mid new at from k g size n a s e r d is =
     if_some (get now.starts at) r.reached.start (λ x. (generation_at : ℕ → Option ℕ) → RefersToNoneBelow generation_at x g → AreCardsSound generation_at now → AreCardsSound generation_at (territory_view thread new targets)) r.reached.has
     (λ generation_at. sound_copy thread targets now old mid new from k g size n at a r.reached.start generation_at e d r.reached.has (told_start thread targets now old mid new at from k g size n a s e r d is))
+
+-- ---- a copy in a segment of its own
+
+pub large_copied : (thread : ℕ) (now : TerritoryView) (old new : PoolView) (at from k g size n : ℕ) (s : Space) → IsSettled old → IsSettled new → IsRead thread now old at from k size s → 128 < size → (l : IsLargeCopy old new from k g n)
+    → IsCopied old l.mid new from k g size n
+large_copied thread now old new at from k g size n s t t' r large l = record {
+  old_settled = t;
+  mid_settled = l.settled;
+  new_settled = t';
+  start = r.start;
+  size_is = r.size_is;
+  room = room_large old l.mid (numbered old.segments from).space g size n (subst (λ v. IsOpened old l.mid (numbered old.segments from).space g v 1 n) (sym r.size_is) l.opened) large l.areas;
+  segments = l.segments;
+}
+
+-- ... is at its beginning
+pub large_place : (old new : PoolView) (from k g n a thread : ℕ) (l : IsLargeCopy old new from k g n) → a ≡ address_of thread n 0 → a ≡ (thread * SEGMENTS + n) * OFFSETS + (numbered l.mid.segments n).top
+large_place old new from k g n a thread l is = address_is a thread n 0 (numbered l.mid.segments n).top is (sym (ap (λ (v : Segment). v.top) l.opened.here))

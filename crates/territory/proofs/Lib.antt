@@ -25,6 +25,7 @@ pub mod Begun
 pub mod BegunTerritory
 pub mod Fromward
 pub mod Copied
+pub mod Large
 pub mod Copying
 pub mod OldWords
 pub mod AgedPool

@@ -16,6 +16,7 @@ mod room;
 
 use crate::counts::SegmentCounts;
 pub use following::{Between, object_in};
+pub use room::GREATEST_SHARED;
 use seg_chain::Chains;
 use segment::Segment;
 use std::alloc::{AllocError, Global};

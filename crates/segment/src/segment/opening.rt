@@ -2,7 +2,8 @@
 
 ghost use Rattle.std.specs.Prelude.{◌≡◌, ℕ, ◌*◌, ◌<◌, ◌≤◌, true, false, length, vec_len, slice_index, replicate, None, IfOk, OnOk, OnErr};
 ghost use Rattle.gc_words.specs.declared.address.TheConstants.{OFFSETS};
-ghost use Rattle.segment.specs.Segments.{is_free, vacant, opened, renewed, emptied, given_back, spot};
+ghost use Rattle.segment.specs.Segments.{is_free, vacant, opened, renewed, emptied, given_back, spot, IsStart};
+ghost use Rattle.segment.specs.Copies.{opened_copy};
 
 use super::{Role, Segment};
 use crate::space::Space;
@@ -55,6 +56,44 @@ impl Segment {
         self.role = Role::Current;
         self.was_held = false;
         self.is_dirty = false;
+        Ok(())
+    }
+
+    /// Makes a free segment one of this generation that has a copy of start `k` of another segment and nothing
+    /// else, with memory of just its size. The words are copied into new memory, which is not cleared before.
+    /// Err where memory is refused, which changes nothing.
+    pub fn open_copy(
+        &mut self,
+        source: &Segment,
+        k: usize,
+        generation: u8,
+    ) -> Result<(), AllocError>
+        requires free { is_free self.old.role ≡ true }
+        requires start { IsStart source.now k }
+        ensures ok { OnOk result (self.new ≡ opened_copy source.now k generation) }
+        ensures err { OnErr result (self.new ≡ self.old) }
+    {
+        let alloc = *self.words.allocator();
+        let size = source.size(k);
+        let words = Vec::from_slice(alloc, &source.words[2 * k..2 * k + size])?;
+        let birth = source.births[k];
+        let births = Vec::from_slice(alloc, &[birth])?;
+        let cards = CardTable::new(alloc, size)?;
+        let marks = no_marks(alloc, 1)?;
+        *self = Segment {
+            space: source.space,
+            generation,
+            role: Role::Current,
+            was_held: false,
+            is_dirty: false,
+            top: size,
+            words,
+            births,
+            starts: usize::from(birth > 0),
+            cards,
+            marks,
+            holds: false,
+        };
         Ok(())
     }
 

@@ -54,7 +54,8 @@ fn close_area(areas: &mut Vec<Option<usize>>, area: usize) -> u64
 }
 
 impl Pool {
-    /// Sets the segments of a generation aside, and closes its areas.
+    /// Sets the segments of a generation aside, and closes its areas. A generation without segments has no
+    /// open area: its areas are not looked at.
     fn set_generation_aside(&mut self, generation: u8)
         requires settled { IsSettled self.old }
         requires generation_in { generation < 9 }
@@ -65,6 +66,9 @@ impl Pool {
         ensures dirty { self.new.dirty ≡ self.old.dirty }
     {
         let list = 1 + usize::from(generation);
+        if self.lists.first(list).is_none() {
+            return;
+        }
         let closed = close_areas(&mut self.areas, usize::from(generation));
         set_list_aside(&mut self.segments, &self.lists, list);
         self.lists.splice(list, list + 9);

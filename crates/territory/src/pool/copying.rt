@@ -1,13 +1,15 @@
 //! Copies of starts in the segments of a pool.
 
-ghost use Rattle.std.specs.Prelude.{◌≡◌, ◌≢◌, ℕ, ◌<◌, false, length, vec_len};
+ghost use Rattle.std.specs.Prelude.{◌≡◌, ◌≢◌, ℕ, ◌<◌, false, true, length, vec_len, IfOk, OnOk, OnErr};
 ghost use Rattle.segment.specs.Segments.{IsSound, IsStart, HasRoom, is_free, size_at};
 ghost use Rattle.territory.specs.Pools.{IsSettled, numbered};
-ghost use Rattle.territory.specs.Copies.{with_copied};
+ghost use Rattle.territory.specs.Changes.{IsSame};
+ghost use Rattle.territory.specs.Copies.{with_copied, with_opened, IsLargeCopy};
 
 use super::Pool;
 use super::objects::cells_of;
 use segment::Segment;
+use std::alloc::AllocError;
 
 impl Pool {
     /// Copies start `k` of segment `from`, of so many words, to the top of segment `n`, which is of the same
@@ -32,6 +34,48 @@ impl Pool {
         let offset = copy_start(&mut self.segments, from, k, n, size);
         self.counts.cells += cells;
         offset
+    }
+
+    /// Copies start `k` of segment `from`, which has more than 128 words, into a segment of its own, which is
+    /// opened with the copy at the next number. Takes memory; refused, no segment in use has changed.
+    #[inline(never)]
+    pub fn copy_large(&mut self, from: usize, k: usize, generation: u8) -> Result<usize, AllocError>
+        requires settled { IsSettled self.old }
+        requires start { IsStart (numbered self.old.segments from) k }
+        requires large { 128 < size_at (numbered self.old.segments from) k }
+        requires generation_in { generation < 9 }
+        ensures settled { IsSettled self.new }
+        ensures ok { IfOk result (λ n. IsLargeCopy self.old self.new from k generation n) }
+        ensures err { OnErr result (IsSame self.old self.new) }
+    {
+        let n = self.take_number()?;
+        open_apart(&mut self.segments, from, k, n, generation)?;
+        self.lists.push_last(1 + usize::from(generation), n);
+        self.counts.segment_words += self.segments[n].words() as u64;
+        Ok(n)
+    }
+}
+
+/// Opens a free segment with a copy of a start of another one.
+fn open_apart(
+    segments: &mut [Segment],
+    from: usize,
+    k: usize,
+    n: usize,
+    generation: u8,
+) -> Result<(), AllocError>
+    requires start { IsStart (numbered segments.old from) k }
+    requires within { n < length segments.old }
+    requires free { is_free (numbered segments.old n).role ≡ true }
+    ensures ok { OnOk result (segments.new ≡ with_opened segments.old from k n generation) }
+    ensures err { OnErr result (segments.new ≡ segments.old) }
+{
+    if from < n {
+        let (front, back) = segments.split_at_mut(n);
+        back[0].open_copy(&front[from], k, generation)
+    } else {
+        let (front, back) = segments.split_at_mut(from);
+        front[n].open_copy(&back[0], k, generation)
     }
 }
 

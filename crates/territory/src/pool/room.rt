@@ -11,7 +11,7 @@ use segment::Space;
 use std::alloc::AllocError;
 
 /// An object of more words has a segment of its own.
-const GREATEST_SHARED: usize = 128;
+pub const GREATEST_SHARED: usize = 128;
 
 /// The words of a segment that objects share.
 pub(super) const SHARED_WORDS: usize = 512;

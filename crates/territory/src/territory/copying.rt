@@ -7,6 +7,7 @@ ghost use Rattle.territory.specs.Territories.{IsAsBefore, AreCardsSound};
 ghost use Rattle.territory.specs.Copies.{copy_in, IsPlacedLike, RefersToNoneBelow};
 
 use super::{Territory, place};
+use crate::pool::GREATEST_SHARED;
 use gc_words::Address;
 use std::alloc::AllocError;
 
@@ -37,6 +38,10 @@ impl Territory {
         let source = self.pool.segment(segment);
         let space = source.space();
         let size = source.size(start);
+        if size > GREATEST_SHARED {
+            let own = self.pool.copy_large(segment, start, generation)?;
+            return Ok(Address::at(self.thread, own as u64, 0));
+        }
         let n = self.pool.room_for(space, generation, size)?;
         let offset = self.pool.copy(segment, start, n, size);
         Ok(Address::at(self.thread, n as u64, offset as u32))
