@@ -118,6 +118,7 @@ impl Territory {
     }
 
     /// A word of a pair.
+    #[inline(always)]
     fn pair_word(&self, at: Address, index: u32) -> u64
         requires pair { IsPairAt self.now at }
         requires index { index < 2 }
@@ -128,6 +129,7 @@ impl Territory {
     }
 
     /// The pair to which a word of a pair refers, where it lies in the same segment and has no place.
+    #[inline(always)]
     fn unplaced(&self, object: Address, index: u32, places: &[u64]) -> Option<Address>
         requires object { IsPairAt self.now object }
         requires index { index < 2 }
@@ -147,9 +149,46 @@ impl Territory {
         }
     }
 
-    /// Copies the pair to which a word of a pair refers, where it lies in the same segment and has no place, and puts its
-    /// place into the same word of the pair's copy. Gives the pair and its place. Refused, at most the lists of segments
-    /// have changed.
+    /// Copies a pair that lies in the same segment and has no place, to which a word of a pair refers, and puts its place
+    /// into the same word of that pair's copy. Gives the place. Refused, at most the lists of segments have changed.
+    fn copy_unplaced(
+        &mut self,
+        object: Address,
+        copy: Address,
+        index: u32,
+        at: Address,
+        places: &mut [u64],
+        log: &mut CopyLog,
+    ) -> Result<Address, AllocError>
+        requires object { IsPairAt self.old object }
+        requires copy { IsPairAt self.old copy }
+        requires index { index < 2 }
+        requires refers { RefersToUnplaced self.old places.old object index at }
+        requires places { length places.old ≡ 256 }
+        requires count { log.old.count ≡ length log.old.own.items }
+        ensures reached { IfOk result (λ place. IfSome (map.get self.old.starts copy) (λ y. IsReached y.generation
+            (trail self.old places.old log.old.own.items log.old.waiting.items)
+            (trail self.new places.new log.new.own.items log.new.waiting.items) object copy index at place)) }
+        ensures refused { OnErr result (IsLeft (trail self.old places.old log.old.own.items log.old.waiting.items)
+            (trail self.new places.new log.new.own.items log.new.waiting.items)) }
+        ensures waiting { log.new.waiting ≡ log.old.waiting }
+        ensures count { log.new.count ≡ length log.new.own.items }
+        ensures places { length places.new ≡ 256 }
+    {
+        let count = log.count.checked_add(1).ok_or(AllocError)?;
+        let generation = self.generation(copy);
+        let place = self.copy(at, generation)?;
+        let word = encode(Value::Object(place));
+        self.put(copy, index, word, generation);
+        places[at.offset() as usize / 2] = word;
+        log.own = log.own.and(&at, &place);
+        log.count = count;
+        Ok(place)
+    }
+
+    /// The same where the word refers to such a pair, which it gives with its place. In most runs of pairs it refers to
+    /// none, so that is tested first.
+    #[inline(always)]
     fn reach(
         &mut self,
         object: Address,
@@ -179,14 +218,7 @@ impl Territory {
         let Some(at) = self.unplaced(object, index, places) else {
             return Ok(None);
         };
-        let count = log.count.checked_add(1).ok_or(AllocError)?;
-        let generation = self.generation(copy);
-        let place = self.copy(at, generation)?;
-        let word = encode(Value::Object(place));
-        self.put(copy, index, word, generation);
-        places[at.offset() as usize / 2] = word;
-        log.own = log.own.and(&at, &place);
-        log.count = count;
+        let place = self.copy_unplaced(object, copy, index, at, places, log)?;
         Ok(Some((at, place)))
     }
 
