@@ -54,7 +54,7 @@ impl Model for Directory {
 fn empty_tables(alloc: Global) -> Result<Vec<FromTable>, AllocError>
     ensures { IfOk result (λ v. length v.items ≡ 64) }
 {
-    let mut tables = Vec::new(alloc);
+    let mut tables = Vec::with_capacity(alloc, THREADS)?;
     for _ in 0..THREADS {
         tables.push(FromTable::new(alloc))?;
     }

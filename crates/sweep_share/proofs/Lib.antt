@@ -5,3 +5,4 @@ pub mod Numbers
 pub mod Raising
 pub mod Following
 pub mod EachOfThem
+pub mod Indices

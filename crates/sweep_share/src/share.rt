@@ -53,10 +53,16 @@ fn indices_of(alloc: Global, number: u32, sweepers: u32) -> Result<Vec<u8>, Allo
     ensures { IfOk result (λ v. AreIndicesOf number sweepers v.items) }
 {
     let mut indices = none_own(alloc)?;
-    for thread in 0..64 {
-        if thread % sweepers == number {
-            indices[thread as usize] = (thread / sweepers) as u8;
-        }
+    // No thread has such a remainder.
+    if number >= sweepers {
+        return Ok(indices);
+    }
+    let mut thread = number as usize;
+    let mut index = 0;
+    while thread < 64 {
+        indices[thread] = index;
+        index += 1;
+        thread += sweepers as usize;
     }
     Ok(indices)
 }

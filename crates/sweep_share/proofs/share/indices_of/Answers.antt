@@ -1,10 +1,23 @@
-use Rattle.std.proofs.Common.{ℕ, get_or, length, ◌∙◌, ap, arith}
-use Rattle.std.proofs.lemmas.List.{get_or-replicate, length-replicate}
+-- The threads get their indices one by one; a number that is no remainder has none.
+use Rattle.sweep_share.proofs.Indices.{filled_all, filled_more, filled_never, filled_none}
 use Rattle.sweep_share.proofs.share.indices_of.Goals as goal
 
+pub returns-then-number-sweepers : goal.returns-then-number-sweepers
+returns-then-number-sweepers c =
+    filled_never c.args.number c.args.sweepers c.in_ok-indices.indices.items c.requires c.if-number-sweepers.true
+    c.in_ok-indices.ensures
+
 pub loop-thread-init : goal.loop-thread-init
-loop-thread-init c = record {
-  count = ap length c.in_ok-indices.ensures ∙ length-replicate {A = ℕ} 64 255;
-  done = λ t below. absurd (omega (arith, below));
-  rest = λ t above small. ap (λ l. get_or l t 0) c.in_ok-indices.ensures ∙ get_or-replicate 64 t 255 0 small;
-}
+loop-thread-init c =
+    filled_none c.args.number c.args.sweepers c.in_ok-indices.indices.items c.if-number-sweepers.false
+    c.in_ok-indices.ensures
+
+pub loop-thread-preserved : goal.loop-thread-preserved
+loop-thread-preserved c =
+    filled_more c.args.number c.args.sweepers c.loop-thread.indices.items c.loop-thread.thread c.loop-thread.index
+    c.loop-thread-test.true c.loop-thread.invariant
+
+pub returns : goal.returns
+returns c =
+    filled_all c.args.number c.args.sweepers c.loop-thread.indices.items c.loop-thread.thread c.loop-thread.index
+    c.loop-thread-test.false c.loop-thread.invariant

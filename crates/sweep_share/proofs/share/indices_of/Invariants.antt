@@ -1,10 +1,10 @@
-use Rattle.std.proofs.Common.{◌≡◌, ℕ, ◌<◌, ◌≤◌, length, slice_index}
-use Rattle.sweep_share.specs.Shares.{index_of}
+-- The threads below the next one have their indices.
+use Rattle.std.proofs.Common.{◌-◌}
+use Rattle.sweep_share.proofs.Indices.{IsFilled}
 use Rattle.sweep_share.proofs.share.indices_of.Given as goal
 
 abbrev pub invariant-loop-thread : goal.invariant-loop-thread
-invariant-loop-thread l = record {
-  count : length l.indices.items ≡ 64;
-  done : (t : ℕ) → t < l.thread → slice_index l.indices.items t ≡ index_of l.number l.sweepers t;
-  rest : (t : ℕ) → l.thread ≤ t → t < 64 → slice_index l.indices.items t ≡ 255;
-}
+invariant-loop-thread l = IsFilled l.number l.sweepers l.indices.items l.thread l.index
+
+abbrev pub decreases-loop-thread : goal.decreases-loop-thread
+decreases-loop-thread l = 64 - l.thread
