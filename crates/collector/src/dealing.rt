@@ -1,7 +1,7 @@
 //! Territories and registers are dealt out to sweepers: those of number k go to the sweeper of k modulo their number. Of
 //! the registers only those are dealt out that hold objects, since a collection leaves the others as they are.
 
-ghost use Rattle.std.specs.Prelude.{◌≡◌, ◌+◌, ◌<◌, ◌≤◌, [], ◌++◌, ◌∷◌, length, replicate, slice_get, IfNone, IfOk, IfSome, IsFalse, IsSome, OnOk};
+ghost use Rattle.std.specs.Prelude.{◌≡◌, ◌↔◌, ◌+◌, ◌<◌, ◌≤◌, [], ◌++◌, ◌∷◌, length, replicate, slice_get, IfNone, IfOk, IfSome, IsFalse, IsSome, OnOk};
 ghost use Rattle.sweep_model.specs.World.{object_in};
 ghost use Rattle.collector.specs.Dealt.{AreDealt, AreRegistersDealt, HoldNone};
 
@@ -165,7 +165,7 @@ fn no_registers(alloc: Global, count: u32) -> Result<Vec<OwnRegisters>, AllocErr
 #[inline(always)]
 fn is_object_among(registers: &[Value], from: usize) -> bool
     requires { from + 8 ≤ length registers.now }
-    ensures { IsFalse result → HoldNone registers.now from (from + 8) }
+    ensures { IsFalse result ↔ HoldNone registers.now from (from + 8) }
 {
     let mut found = false;
     for i in 0..8 {
@@ -174,11 +174,12 @@ fn is_object_among(registers: &[Value], from: usize) -> bool
     found
 }
 
-/// A register from one on, before which none holds an object, as far as whole eights show it.
+/// The first register that is not passed, where each eight from one on is passed of which none holds an object.
 #[inline(always)]
 fn pass_eights(registers: &[Value], from: usize) -> usize
     ensures start { from ≤ result }
     ensures none { HoldNone registers.now from result }
+    ensures some { result + 8 ≤ length registers.now → HoldNone registers.now result (result + 8) → ⊥ }
 {
     let mut at = from;
     while at < registers.len() && registers.len() - at >= 8 && !is_object_among(registers, at) {
