@@ -2,6 +2,7 @@
 
 ghost use Rattle.std.specs.Prelude.{◌≡◌, ◌+◌, ◌/◌, ◌*◌, ◌<◌, ◌↔◌, false, length, slice_index, IsTrue};
 ghost use Rattle.segment.specs.Layout.{size_of};
+ghost use Rattle.segment.specs.declared.space.Space.TheVariants.{Pair};
 ghost use Rattle.segment.specs.Segments.{IsStart, HasRoom, count_of_births, is_some_marked, object_at, place_in, grown, put_in, marked_at};
 
 mod aging;
@@ -219,6 +220,17 @@ impl Segment {
         let skip = self.space.skip();
         let at = 2 * k + skip + index;
         self.words[at] = word;
+    }
+
+    /// The same in a pair, which has no header.
+    #[inline(always)]
+    pub fn put_in_pair(&mut self, k: usize, index: usize, word: u64)
+        requires pair { self.old.space ≡ Pair }
+        requires start { IsStart self.old k }
+        requires index_in { index < length (object_at self.old k).words }
+        ensures { self.new ≡ put_in self.old k index word }
+    {
+        self.words[2 * k + index] = word;
     }
 
     /// Notes on the card of a word that it refers to this generation, and says whether the segment was not

@@ -36,6 +36,7 @@ pub mod OldTests
 pub mod OldStarts
 pub mod OldNexts
 pub mod Moving
+pub mod Turned
 pub mod Unheld
 pub mod Releasing
 pub mod Holding

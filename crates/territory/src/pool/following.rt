@@ -93,18 +93,40 @@ fn start_at(segment: &Segment, thread: u8, number: usize, at: Address) -> Option
     }
 }
 
-/// The same, where it lies in the segment `from` and has no place.
+/// The number of the start to which a word refers, where that may be one of the segment `from`: the word is that of the
+/// segment's first object and 16 times the number more.
 #[inline(always)]
-fn unplaced(from: &Segment, between: Between, at: Address, places: &[u64]) -> Option<usize>
+fn start_of(word: u64, between: Between) -> Option<usize>
+    requires { HasParts between.thread between.from 0 }
+    ensures object { IfSome result (λ k. value_of word ≡ Some (value.Object (object_at between k))) }
+    ensures small { IfSome result (λ k. k < 256) }
+{
+    let first = encode(Value::Object(between.object(0)));
+    let start = word.wrapping_sub(first).rotate_right(4);
+    if start < 256 {
+        Some(start as usize)
+    } else {
+        None
+    }
+}
+
+/// The same, where something starts there that has no place.
+#[inline(always)]
+fn unplaced(from: &Segment, between: Between, word: u64, places: &[u64]) -> Option<usize>
     requires sound { IsSound from.now }
+    requires parts { HasParts between.thread between.from 0 }
     requires size { length from.now.words ≡ 512 }
     requires places { length places.now ≡ 256 }
-    ensures object { IfSome result (λ k. at ≡ object_at between k) }
+    ensures object { IfSome result (λ k. value_of word ≡ Some (value.Object (object_at between k))) }
     ensures start { IfSome result (IsStart from.now) }
     ensures unplaced { IfSome result (λ k. slice_index places.now k ≡ 0) }
 {
-    let k = start_at(from, between.thread, between.from, at)?;
-    if places[k] == NO_PLACE { Some(k) } else { None }
+    let k = start_of(word, between)?;
+    if from.is_start(2 * k) && places[k] == NO_PLACE {
+        Some(k)
+    } else {
+        None
+    }
 }
 
 /// Copies start `k` to the top of the segment `to`, and puts its place into word `index` of the copy of `tip`. Gives the
@@ -140,7 +162,7 @@ fn reach(
     let offset = to.grow_two(first, second, from.birth(k));
     let place = between.copy(offset);
     let word = encode(Value::Object(place));
-    to.put(tip.offset / 2, index, word);
+    to.put_in_pair(tip.offset / 2, index, word);
     places[k] = word;
     log.own = log.own.and(&between.object(k), &place);
     offset
@@ -174,10 +196,12 @@ fn sweep_car(
     ensures words { length to.new.words ≡ length to.old.words }
 {
     let (car, _) = from.two_words(tip.start);
-    let Some(at) = object_in(car) else {
-        return Some(tip);
+    let Some(k) = unplaced(from, between, car, places) else {
+        return match object_in(car) {
+            Some(_) => None,
+            None => Some(tip),
+        };
     };
-    let k = unplaced(from, between, at, places)?;
     if !to.has_room(2) {
         return None;
     }
@@ -248,7 +272,10 @@ fn sweep_cdr(
     ensures words { length to.new.words ≡ length to.old.words }
 {
     let (_, cdr) = from.two_words(tip.start);
-    let Some(at) = object_in(cdr) else {
+    let Some(k) = unplaced(from, between, cdr, places) else {
+        if object_in(cdr).is_some() {
+            return None;
+        }
         let (start, offset) = take_waiting(from, to, between, log)?;
         return Some(Tip {
             start,
@@ -256,7 +283,6 @@ fn sweep_cdr(
             count: tip.count,
         });
     };
-    let k = unplaced(from, between, at, places)?;
     if !to.has_room(2) {
         return None;
     }
