@@ -1,7 +1,7 @@
 use Rattle.std.proofs.Common.{◌≡◌, ◌≢◌, ℕ, zero, suc, ◌+◌, ◌-◌, ◌<◌, ◌≤◌, List, [], ◌∷◌, ◌++◌, length, set, get_or, replicate, length-append, append-nil, get_or-set_same, get_or-set_other, Some, None, refl, sym, ◌∙◌, ap, subst, arith, inl, inr}
 use Rattle.std.proofs.lemmas.List.{length-set, length-replicate, get_or_append_left, get_or_past, get_or_read, length_push, set-get_or}
 use Rattle.std.proofs.lemmas.Bool.{cases_eq, cases_lt}
-use Rattle.std.specs.List.{slice_get}
+use Rattle.std.specs.List.{last_or, slice_get}
 use Rattle.seg_chain.specs.Lists.{chain_of, times, times_all, link_count, NextIs}
 use Rattle.seg_chain.specs.Linked.{Path, IsLinked}
 use Rattle.seg_chain.proofs.Counts.{times-append, here_in, later_in, times_all-set, link_count-set}
@@ -268,6 +268,40 @@ first_some h next prev lists now c r l e k rd b =
     let p : (c < h) × Path h (at next) (at prev) c (chain_of now c) c = first_path h next prev lists now c l e k in
     let q : r ≡ at next c = read_is next c r (omega (arith, l.total, p.0)) rd in
     ap (λ w. Some (w - h)) q ∙ after_some h (at next) (at prev) c (chain_of now c) c p.1 p.0 (subst (λ w. h ≤ w) q b)
+
+-- ---- `last`
+-- the last node over a list that isn't empty is that of its last index
+last_high : (h u : ℕ) (xs : List ℕ) → h ≤ u → h ≤ last_of h u xs
+last_high h u [] b = b
+last_high h u (x ∷ xs) b = last_high h (h + x) xs (omega arith)
+
+last_value : (h x : ℕ) (xs : List ℕ) → Some (last_of h (h + x) xs - h) ≡ last_or (Some x) xs
+last_value h x [] = ap Some (omega arith)
+last_value h x (y ∷ xs) = last_value h y xs
+
+none_last : (h u : ℕ) (xs : List ℕ) → last_of h u xs < h → None ≡ last_or None xs
+none_last h u [] b = refl
+none_last h u (x ∷ xs) b = absurd (omega (arith, last_high h (h + x) xs (omega arith)))
+
+some_last : (h u : ℕ) (xs : List ℕ) → u < h → h ≤ last_of h u xs → Some (last_of h u xs - h) ≡ last_or None xs
+some_last h u [] c b = absurd (omega (arith, c, b))
+some_last h u (x ∷ xs) c b = last_value h x xs
+
+-- what `prev` has for a chain's own node
+last_node : (h : ℕ) (next prev : List ℕ) (lists now : List (List ℕ)) (c r : ℕ) → IsLinked h next prev lists → lists ≡ now → c < length now → r ≡ get_or prev c r → (c < h) × (r ≡ last_of h c (chain_of now c))
+last_node h next prev lists now c r l e k rd =
+    let p : (c < h) × Path h (at next) (at prev) c (chain_of now c) c = first_path h next prev lists now c l e k in
+    (p.0, read_is prev c r (omega (arith, l.same, l.total, p.0)) rd ∙ last_is h (at next) (at prev) c (chain_of now c) c p.1)
+
+pub last_none : (h : ℕ) (next prev : List ℕ) (lists now : List (List ℕ)) (c r : ℕ) → IsLinked h next prev lists → lists ≡ now → c < length now → r ≡ get_or prev c r → r < h → None ≡ last_or None (chain_of now c)
+last_none h next prev lists now c r l e k rd b =
+    let q : (c < h) × (r ≡ last_of h c (chain_of now c)) = last_node h next prev lists now c r l e k rd in
+    none_last h c (chain_of now c) (subst (λ w. w < h) q.1 b)
+
+pub last_some : (h : ℕ) (next prev : List ℕ) (lists now : List (List ℕ)) (c r : ℕ) → IsLinked h next prev lists → lists ≡ now → c < length now → r ≡ get_or prev c r → h ≤ r → Some (r - h) ≡ last_or None (chain_of now c)
+last_some h next prev lists now c r l e k rd b =
+    let q : (c < h) × (r ≡ last_of h c (chain_of now c)) = last_node h next prev lists now c r l e k rd in
+    ap (λ w. Some (w - h)) q.1 ∙ some_last h c (chain_of now c) q.0 (subst (λ w. h ≤ w) q.1 b)
 
 pub next_none : (h : ℕ) (next prev : List ℕ) (lists now : List (List ℕ)) (i r : ℕ) → IsLinked h next prev lists → lists ≡ now → i < link_count now → r ≡ get_or next (h + i) r → r < h → NextIs now i None
 next_none h next prev lists now i r l e k rd b c j is =

@@ -1,6 +1,7 @@
 //! The lists of some chains, linked by index.
 
-ghost use Rattle.std.specs.Prelude.{◌≡◌, ◌≢◌, ℕ, ◌+◌, ◌<◌, List, [], length, slice_get, replicate, Contains, IfOk, OnOk, OnErr};
+ghost use Rattle.std.specs.Prelude.{◌≡◌, ◌≢◌, ℕ, ◌+◌, ◌<◌, List, [], length, slice_get, replicate, Contains, None, IfOk, OnOk, OnErr};
+ghost use Rattle.std.specs.List.{last_or};
 ghost use Rattle.seg_chain.specs.Lists.{chain_of, link_count, with_last, moved, spliced, EachOnce, NextIs};
 
 use crate::links::{add_node, attach, detach, join_circles, own_numbers};
@@ -111,6 +112,19 @@ impl Chains {
         }
     }
 
+    /// The last index of a chain. None where its list is empty.
+    pub fn last(&self, chain: usize) -> Option<usize>
+        requires { chain < length self.now }
+        ensures { result ≡ last_or None (chain_of self.now chain) }
+    {
+        let node = self.prev[chain];
+        if node < self.heads {
+            None
+        } else {
+            Some(node - self.heads)
+        }
+    }
+
     /// The index after an index, in the list that has it. None where it is the last there.
     pub fn next(&self, index: usize) -> Option<usize>
         requires { index < link_count self.now }
@@ -204,6 +218,7 @@ mod tests {
             [99, 1, 2, 0, 99, 99].as_slice()
         );
         assert_eq!(rt; chains.links(), 3);
+        assert_eq!(rt; (chains.last(0), chains.last(1)), (None, Some(0)));
         Ok(())
     }
 }

@@ -10,7 +10,7 @@ use Rattle.seg_chain.proofs.Counts.{times-append}
 use Rattle.seg_chain.proofs.Laws.{contains_of, times_of}
 use Rattle.segment.specs.declared.segment.Role.{Role}
 use Rattle.segment.specs.declared.segment.Role.TheVariants.{Free, Current, From}
-use Rattle.segment.specs.Segments.{Segment, is_free}
+use Rattle.segment.specs.Segments.{Segment, is_free, vacant}
 use Rattle.territory.specs.Territories.{SegmentView, TerritoryView, segment_at, IsNext, IsFrom, AreFromOnes, from_on, from_list}
 use Rattle.territory.specs.Pools.{PoolView, IsSettled, numbered, seen, list_of, list_for, territory_view}
 use Rattle.territory.specs.declared.territory.Targets.{Targets}
@@ -173,6 +173,17 @@ unfolding from_on
 times_from p n t i =
     let r : (h : ℕ) × (0 < times h (range_with_len 0 (9 - 0))) × (0 < times n (chain_of p.lists (10 + h))) = times_flat_in (λ h. chain_of p.lists (10 + h)) (range_with_len 0 (9 - 0)) n i in
     (in_from p r.0 n t r.2).0
+
+-- where there is no segment there is no from-segment
+pub none_without : (p : PoolView) → IsSettled p → length p.segments ≡ 0 → None ≡ slice_get (from_list p.lists) 0
+none_without p t none =
+    let first : Option ℕ = slice_get (from_list p.lists) 0 in
+    elim first as (λ o. first ≡ o → None ≡ o) [
+      | None ↦ λ e. refl
+      | Some n ↦ λ e.
+          let past : numbered p.segments n ≡ vacant = get_or_past p.segments n vacant (omega arith) in
+          let role : Free ≡ From = sym (ap (λ (s : Segment). s.role) past) ∙ times_from p n t (in_at (from_list p.lists) 0 n e) in absurd (cc)
+    ] refl
 
 pub from_listed : (p : PoolView) (n : ℕ) → IsSettled p → (numbered p.segments n).role ≡ From → Contains (from_list p.lists) n
 from_listed p n t is =

@@ -1,13 +1,13 @@
 -- A pool gets a number more.
-use Rattle.std.proofs.Common.{◌≡◌, ℕ, zero, suc, ◌+◌, ◌<◌, ◌≤◌, true, false, cond, nat_lt, List, [], ◌∷◌, ◌++◌, length, replicate, Option, Some, None, is_some, refl, sym, ◌∙◌, ap, subst, arith, inl, inr}
+use Rattle.std.proofs.Common.{◌≡◌, ◌⊎◌, ℕ, zero, suc, ◌+◌, ◌<◌, ◌≤◌, true, false, cond, nat_lt, List, [], ◌∷◌, ◌++◌, length, replicate, Option, Some, None, is_some, refl, sym, ◌∙◌, ap, subst, arith, inl, inr}
 use Rattle.std.proofs.lemmas.List.{length_push, length-replicate}
 use Rattle.std.proofs.lemmas.Bool.Decides.{nat_tests}
 use Rattle.std.proofs.lemmas.Option.{slice_get_within, get_or_from_slice_get, same_Some}
 use Rattle.std.proofs.lemmas.List.Sums.{sum_by-cons}
-use Rattle.std.specs.List.{slice_get, sum_by, count_by}
+use Rattle.std.specs.List.{last_or, slice_get, sum_by, count_by}
 use Rattle.gc_words.specs.declared.address.TheConstants.{SEGMENTS}
 use Rattle.seg_chain.specs.Lists.{chain_of, link_count, times, with_last, EachOnce}
-use Rattle.seg_chain.proofs.Counts.{times_from_index}
+use Rattle.seg_chain.proofs.Counts.{here_in, later_in, times_from_index}
 use Rattle.seg_chain.proofs.Calls.{link_count-replicate}
 use Rattle.seg_chain.proofs.Laws.{chain_of-replicate, chain_of-with_last}
 use Rattle.segment.specs.Segments.{Segment, IsSound, spot, vacant}
@@ -71,6 +71,26 @@ pub no_first : (xs : List ℕ) (o : Option ℕ) → o ≡ slice_get xs 0 → (o 
 no_first [] o e f = refl
 no_first (x ∷ xs) o e f = absurd (let g : None ≡ Some x = sym f ∙ e in cc)
 
+-- the last number of a list stands in it
+last_in : (o : Option ℕ) (xs : List ℕ) (n : ℕ) → last_or o xs ≡ Some n → (o ≡ Some n) ⊎ (0 < times n xs)
+last_in o [] n e = inl e
+last_in o (x ∷ xs) n e =
+    elim (last_in (Some x) xs n e) [
+      | inl same ↦ inr (subst (λ v. 0 < times v (x ∷ xs)) (same_Some _ _ same) (here_in x xs))
+      | inr later ↦ inr (later_in n x xs later)
+    ]
+
+in_last : (xs : List ℕ) (n : ℕ) → last_or None xs ≡ Some n → 0 < times n xs
+in_last xs n e = elim (last_in None xs n e) [ inl none ↦ absurd (cc) | inr k ↦ k ]
+
+some_last : (x : ℕ) (xs : List ℕ) → last_or (Some x) xs ≡ None → ⊥
+some_last x [] e = absurd (cc)
+some_last x (y ∷ xs) e = some_last y xs e
+
+no_last : (xs : List ℕ) (o : Option ℕ) → o ≡ last_or None xs → (o ≡ None) → xs ≡ []
+no_last [] o e f = refl
+no_last (x ∷ xs) o e f = absurd (some_last x xs (sym e ∙ f))
+
 below_same : (lists : List (List ℕ)) (n : ℕ) → n < link_count lists → with_number lists n ≡ lists
 below_same lists n b = let t : nat_lt n (link_count lists) ≡ true = grind (arith, nat_tests, b) in ap (λ w. cond w lists (with_last lists 0 n)) t
 
@@ -78,20 +98,20 @@ at_end : (lists : List (List ℕ)) (n : ℕ) → n ≡ link_count lists → with
 at_end lists n e = let t : nat_lt n (link_count lists) ≡ false = grind (arith, nat_tests, e) in ap (λ w. cond w lists (with_last lists 0 n)) t
 
 -- a free number is taken
-pub taken_first : (p now : PoolView) (r : Option ℕ) (n : ℕ) → p ≡ now → IsSettled now → r ≡ slice_get (chain_of p.lists 0) 0 → r ≡ Some n → IsTaken now now n
-taken_first p now r n e t f is =
-    let first : slice_get (chain_of now.lists 0) 0 ≡ Some n = ap (λ (q : PoolView). slice_get (chain_of q.lists 0) 0) (sym e) ∙ (sym f ∙ is) in
-    let i : IsIn now.lists 0 n = in_at (chain_of now.lists 0) 0 n first in
+pub taken_last : (p now : PoolView) (r : Option ℕ) (n : ℕ) → p ≡ now → IsSettled now → r ≡ last_or None (chain_of p.lists 0) → r ≡ Some n → IsTaken now now n
+taken_last p now r n e t f is =
+    let last : last_or None (chain_of now.lists 0) ≡ Some n = ap (λ (q : PoolView). last_or None (chain_of q.lists 0)) (sym e) ∙ (sym f ∙ is) in
+    let i : IsIn now.lists 0 n = in_last (chain_of now.lists 0) n last in
     let b : n < link_count now.lists = linked_below now.lists 0 n t.listed.each_once i in
     record {
-      next = inl first;
+      next = inl last;
       lists = sym (below_same now.lists n b);
       within = omega (arith, t.listed.known);
       loose = i;
     }
 
 -- a number that was never used is taken
-pub taken_more : (old mid p : PoolView) (lists : List (List ℕ)) (r : Option ℕ) (n : ℕ) (q : PoolView) → q ≡ old → r ≡ slice_get (chain_of q.lists 0) 0 → r ≡ None → mid.lists ≡ old.lists → p ≡ mid → IsSettled mid
+pub taken_more : (old mid p : PoolView) (lists : List (List ℕ)) (r : Option ℕ) (n : ℕ) (q : PoolView) → q ≡ old → r ≡ last_or None (chain_of q.lists 0) → r ≡ None → mid.lists ≡ old.lists → p ≡ mid → IsSettled mid
     → n ≡ link_count p.lists → link_count mid.lists < length mid.segments → lists ≡ with_last p.lists 0 n
     → IsTaken old (record p { lists = lists }) n
 taken_more old mid p lists r n q eq f none same e t i b is =
@@ -99,7 +119,7 @@ taken_more old mid p lists r n q eq f none same e t i b is =
     let i' : n ≡ link_count old.lists = i ∙ ap link_count l in
     let chains : length p.lists ≡ 19 = ap (λ (v : PoolView). length v.lists) e ∙ t.listed.chains in
     record {
-      next = inr (no_first (chain_of old.lists 0) r (f ∙ ap (λ (v : PoolView). slice_get (chain_of v.lists 0) 0) eq) none, i');
+      next = inr (no_last (chain_of old.lists 0) r (f ∙ ap (λ (v : PoolView). last_or None (chain_of v.lists 0)) eq) none, i');
       lists = is ∙ (ap (λ v. with_last v 0 n) l ∙ sym (at_end old.lists n i'));
       within = omega (arith, ap (λ (v : PoolView). length v.segments) e, ap (λ (v : PoolView). link_count v.lists) e);
       loose = subst (λ v. 0 < times n v) (sym (ap (λ v. chain_of v 0) is ∙ chain_of-with_last p.lists 0 n (omega arith))) (is_last n (chain_of p.lists 0));

@@ -1,6 +1,6 @@
 -- What contracts see of a territory.
 use Rattle.std.specs.Prelude.{◌≡◌, ◌≢◌, ℕ, ◌+◌, ◌-◌, ◌*◌, ◌/◌, ◌%◌, ◌<◌, ◌≤◌, ◌==◌, Bool, true, false, if◌then◌else◌, nat_lt, nat_le, List, [], ◌∷◌, length, map, is_some, min, replicate, slice_get, slice_index, slice_index_or, slice_set, ◌++◌, ◌⊎◌, Option, Some, None, option_map, IsSome, IsNone, IfSome, Contains, ◌&&◌, refl}
-use Rattle.std.specs.List.{list_any, filter, flat_map, range_with_len}
+use Rattle.std.specs.List.{list_any, filter, flat_map, last_or, range_with_len}
 use Rattle.std.specs.Ordering.{nat_cmp}
 use Rattle.std.specs.FinMap.{FinMap, code, get, insert, empty}
 use Rattle.std.specs.Coded.{Coded, code_by, coded×, coded_ℕ, coded_bool, coded_list, coded_option}
@@ -90,10 +90,10 @@ current_numbers t generation = chain_of t.lists (1 + generation)
 abbrev pub from_numbers : TerritoryView → ℕ → List ℕ
 from_numbers t generation = chain_of t.lists (10 + generation)
 
--- n is the next number to be used: the first free one, or where none is free the first that never was used
+-- n is the next number to be used: the last free one, or where none is free the first that never was used
 abbrev pub IsNextNumber : List (List ℕ) → ℕ → Type 0
 IsNextNumber lists n =
-    (slice_get (chain_of lists 0) 0 ≡ Some n) ⊎ ((chain_of lists 0 ≡ []) × (n ≡ link_count lists))
+    (last_or None (chain_of lists 0) ≡ Some n) ⊎ ((chain_of lists 0 ≡ []) × (n ≡ link_count lists))
 
 -- the lists with n among the free numbers, where it never was used
 abbrev pub with_number : List (List ℕ) → ℕ → List (List ℕ)

@@ -154,7 +154,7 @@ fn given_back(alloc: Global, cg: u8) -> Result<([u64; 4], Option<u64>, Option<Ad
     ))
 }
 
-/// The segment of an object that is made then.
+/// The segment of an object that is made then: the one that was given back last.
 fn used_again(alloc: Global, cg: u8) -> Result<u64, AllocError>
     requires { cg ≤ 7 }
 {
@@ -170,7 +170,7 @@ fn what_is_not_held_is_given_back(rt: HostRuntime) -> Result<(), Fail> {
     assert_eq!(rt; given_back(alloc, 0)?, ([8192, 16, 0, 2], None, None));
     assert_eq!(rt; given_back(alloc, 1)?, ([4096, 8, 0, 1], None, None));
     assert_eq!(rt; given_back(alloc, 2)?, ([0, 0, 0, 0], None, None));
-    assert_eq!(rt; used_again(alloc, 0)?, 16);
+    assert_eq!(rt; used_again(alloc, 0)?, 23);
     Ok(())
 }
 

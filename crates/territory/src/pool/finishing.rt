@@ -144,7 +144,7 @@ impl Pool {
         ensures settled { IsSettled self.new }
         ensures finished { AreFinished self.old self.new targets }
     {
-        while let Some(n) = self.first_from(0) {
+        while let Some(n) = self.first_aside() {
             self.finish_segment(n, targets);
         }
     }

@@ -58,6 +58,19 @@ impl Pool {
         }
     }
 
+    /// The first of all from-segments.
+    // Most threads have no segment at all, and each collection asks all 64 of them.
+    #[inline(always)]
+    pub fn first_aside(&self) -> Option<usize>
+        requires { IsSettled self.now }
+        ensures { result ≡ slice_get (from_list self.now.lists) 0 }
+    {
+        if self.segments.is_empty() {
+            return None;
+        }
+        self.first_from(0)
+    }
+
     /// The first from-segment, of a generation at or after this one.
     pub fn first_from(&self, generation: u8) -> Option<usize>
         requires settled { IsSettled self.now }

@@ -1,4 +1,5 @@
-//! Numbers of segments: a free one is used again before a new one.
+//! Numbers of segments: a free one is used again before a new one, and the one that was given back last before the
+//! others, since its memory was used last.
 
 ghost use Rattle.std.specs.Prelude.{◌≡◌, ◌<◌, ◌≤◌, length, IfOk, OnOk};
 ghost use Rattle.gc_words.specs.declared.address.TheConstants.{SEGMENTS};
@@ -31,14 +32,14 @@ fn link_more(dirty: &mut Chains, count: usize) -> Result<(), AllocError>
 }
 
 impl Pool {
-    /// A free number: the first one in its list, or else one that was never used, which takes memory.
+    /// A free number: the last one in its list, or else one that was never used, which takes memory.
     pub fn take_number(&mut self) -> Result<usize, AllocError>
         requires { IsSettled self.old }
         ensures settled { IsSettled self.new }
         ensures same { IsSame self.old self.new }
         ensures ok { IfOk result (λ n. IsTaken self.old self.new n) }
     {
-        if let Some(n) = self.lists.first(0) {
+        if let Some(n) = self.lists.last(0) {
             return Ok(n);
         }
         if self.lists.links() as u64 >= SEGMENTS {

@@ -38,7 +38,7 @@ impl Territory {
         ensures first { result ≡ slice_get (from_list self.now.lists) 0 }
         ensures all { AreFromOnes self.now }
     {
-        let n = self.pool.first_from(0)?;
+        let n = self.pool.first_aside()?;
         Some(n as u64)
     }
 
