@@ -245,6 +245,20 @@ impl Share {
         Ok(place)
     }
 
+    /// The same for a pair: with few look-ups where the open segment has room.
+    #[inline(always)]
+    pub fn copy_pair(&mut self, at: Address, generation: u8) -> Result<Address, AllocError>
+        requires pair { IsPairIn self.old at }
+        requires generation_in { generation ≤ 8 }
+        ensures copied { IfOk result (λ q. IsCopied self.old self.new at generation q) }
+        ensures number { self.new.number ≡ self.old.number }
+        ensures sweepers { self.new.sweepers ≡ self.old.sweepers }
+    {
+        let i = self.index(at);
+        let copy = self.territories[i].copy_pair(at, generation)?;
+        Ok(copy)
+    }
+
     /// Goes from pair to pair in one from-segment, from one on whose copy is known, as far as it can, as the territory's
     /// `follow` does. A field is swept where it refers to no object, or to a pair in the same segment that has no place
     /// yet, which is copied then. Where a cdr refers to no object, the pair that waits last may be taken. `places` has for
