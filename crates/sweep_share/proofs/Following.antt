@@ -376,6 +376,18 @@ module _ (s : ShareView) (i a q : ℕ) (old new : territory.Trail)
       (is_trail s i (thread_of a) all small index within own y.0.generation old a q new b r swept holds
       (if_there (get old.territory.starts q) (λ y. territory.IsTrail y.generation old a q new b r swept) y.0 y.1 trail)).1 end
 
+  -- the words of the pair at which they end are told
+  words_there : (b r car cdr : ℕ) (swept : Bool) → IsSome (start_in s q)
+      → IfSome (get old.territory.starts q) (λ y. territory.IsTrail y.generation old a q new b r swept)
+      → territory.AreItsWords new.territory b car cdr → share.AreItsWords (with_territory s i new.territory) b car cdr
+  words_there b r car cdr swept some trail words =
+      let y = copy_there some in
+      let end : AreOfThread (thread_of a) new b r =
+      (is_trail s i (thread_of a) all small index within own y.0.generation old a q new b r swept holds
+      (if_there (get old.territory.starts q) (λ y. territory.IsTrail y.generation old a q new b r swept) y.0 y.1 trail)).1 in
+      subst (λ o. (car ≡ slice_index (words_of o) 0) × (cdr ≡ slice_index (words_of o) 1))
+      (sym (start_there s i (thread_of a) all small index within own new.territory b end.object)) words
+
   -- it is a share again
   share_after : IsSome (start_in s q)
       → IfSome (get old.territory.starts q) (λ y. territory.HasTrail y.generation old a q new)
@@ -436,3 +448,10 @@ module _ (p s : ShareView) (view : p ≡ s) (i a q : ℕ) (old new : territory.T
       subst (λ (z : ShareView). share.IsTrailEnd
       (share.share_trail (with_territory z i new.territory) new.places new.own new.waiting) b swept) (sym view)
       (ends_there s i a q old new its_all small index within its_owner thread its_read b r swept its_copy trail end)
+
+  pub shown_words : (b r car cdr : ℕ) (swept : Bool)
+      → IfSome (get old.territory.starts q) (λ y. territory.IsTrail y.generation old a q new b r swept)
+      → territory.AreItsWords new.territory b car cdr → share.AreItsWords (with_territory p i new.territory) b car cdr
+  shown_words b r car cdr swept trail words =
+      subst (λ (z : ShareView). share.AreItsWords (with_territory z i new.territory) b car cdr) (sym view)
+      (words_there s i a q old new its_all small index within its_owner thread its_read b r car cdr swept its_copy trail words)

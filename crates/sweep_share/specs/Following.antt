@@ -28,6 +28,10 @@ IsPairIn s a = (x : Start) × (start_in s a ≡ Some x) × (x.kind ≡ Pair)
 abbrev pub word_in : ShareView → ℕ → ℕ → ℕ
 word_in s a index = slice_index (words_of (start_in s a)) index
 
+-- car and cdr are the two words of the pair at a
+abbrev pub AreItsWords : ShareView → ℕ → ℕ → ℕ → Type 0
+AreItsWords s a car cdr = (car ≡ word_in s a 0) × (cdr ≡ word_in s a 1)
+
 -- Word `index` of a refers to a pair b of the same from-segment, which had no place. It was copied to r in generation g,
 -- and word `index` of q, the copy of a, refers there now.
 pub record IsReached (g : ℕ) (old new : ShareTrail) (a q index b r : ℕ) : Type 0 where

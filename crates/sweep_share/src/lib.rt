@@ -9,8 +9,8 @@
 //! copies pairs of one from-segment that lead to each other, in one go.
 //!
 //! Invariant: the territory at index i is that of thread k + i n, and there is one for each such thread; the table has
-//! this index for each of them, and 255 for the threads of other sweepers. `new`, `copy` and `follow` take memory. That
-//! a collection divides the threads by remainder is this project's own.
+//! this index for each of them, and 255 for the threads of other sweepers. `new`, `copy`, `copy_pair` and `follow` take
+//! memory. That a collection divides the threads by remainder is this project's own.
 //!
 //! `Registers` are registers of the sweeper, those that hold objects as a collection deals them out, each with what it
 //! holds: their numbers leave k when divided by n, and ascend, so that one is found by halving. `register_in` is what a

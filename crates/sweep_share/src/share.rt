@@ -6,7 +6,7 @@ ghost use Rattle.gc_mail.specs.Recipients.{owner};
 ghost use Rattle.gc_words.specs.Layout.{thread_of};
 ghost use Rattle.territory.specs.Territories.{words_of};
 ghost use Rattle.sweep_share.specs.Shares.{AreFinished, AreIndicesOf, AreRaised, AreShareOf, IsCopied, IsPairOf, IsPut, IsRaised, IsShare, start_in, territory_at, territory_of};
-ghost use Rattle.sweep_share.specs.Following.{HasTrail, IsPairIn, IsTrail, IsTrailEnd, share_trail};
+ghost use Rattle.sweep_share.specs.Following.{AreItsWords, HasTrail, IsPairIn, IsTrail, IsTrailEnd, share_trail};
 
 use gc_words::Address;
 use std::alloc::{AllocError, Global};
@@ -245,12 +245,26 @@ impl Share {
         Ok(place)
     }
 
+    /// The same for a pair: with few look-ups where the open segment has room.
+    #[inline(always)]
+    pub fn copy_pair(&mut self, at: Address, generation: u8) -> Result<Address, AllocError>
+        requires pair { IsPairIn self.old at }
+        requires generation_in { generation ≤ 8 }
+        ensures copied { IfOk result (λ q. IsCopied self.old self.new at generation q) }
+        ensures number { self.new.number ≡ self.old.number }
+        ensures sweepers { self.new.sweepers ≡ self.old.sweepers }
+    {
+        let i = self.index(at);
+        let copy = self.territories[i].copy_pair(at, generation)?;
+        Ok(copy)
+    }
+
     /// Goes from pair to pair in one from-segment, from one on whose copy is known, as far as it can, as the territory's
     /// `follow` does. A field is swept where it refers to no object, or to a pair in the same segment that has no place
     /// yet, which is copied then. Where a cdr refers to no object, the pair that waits last may be taken. `places` has for
     /// each two words of the segment the word of the place of what starts there, or 0; the copies, and what waits to be
-    /// swept, go to `log`. Takes memory. Err where it is refused, or where a `u64` doesn't count so many copies: what was
-    /// copied until then is right.
+    /// swept, go to `log`. The words of the pair at which it ends are told. Takes memory. Err where it is refused, or where
+    /// a `u64` doesn't count so many copies: what was copied until then is right.
     #[inline(always)]
     pub fn follow(
         &mut self,
@@ -269,6 +283,7 @@ impl Share {
             (share_trail self.new places.new log.new.own.items log.new.waiting.items) e.object e.copy e.car_swept)) }
         ensures ends { IfOk result (λ e. IsTrailEnd
             (share_trail self.new places.new log.new.own.items log.new.waiting.items) e.object e.car_swept) }
+        ensures words { IfOk result (λ e. AreItsWords self.new e.object e.car e.cdr) }
         ensures anyhow { IfSome (start_in self.old copy) (λ y. HasTrail y.generation
             (share_trail self.old places.old log.old.own.items log.old.waiting.items) object copy
             (share_trail self.new places.new log.new.own.items log.new.waiting.items)) }

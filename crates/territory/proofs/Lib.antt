@@ -48,3 +48,4 @@ pub mod Reeling
 pub mod Stepping
 pub mod Trailing
 pub mod Ending
+pub mod PairCopies

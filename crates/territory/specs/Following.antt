@@ -55,6 +55,10 @@ IsPairAt t a = (x : Start) × (get t.starts a ≡ Some x) × (x.kind ≡ Pair)
 abbrev pub word_at : TerritoryView → ℕ → ℕ → ℕ
 word_at t a index = slice_index (words_of (get t.starts a)) index
 
+-- car and cdr are the two words of the pair at a
+abbrev pub AreItsWords : TerritoryView → ℕ → ℕ → ℕ → Type 0
+AreItsWords t a car cdr = (car ≡ word_at t a 0) × (cdr ≡ word_at t a 1)
+
 -- x, which starts at b, was copied to r in generation g, and no card was marked
 pub record IsCopyOf (old new : TerritoryView) (b g r : ℕ) (x : Start) : Type 0 where
   pub address : IsAddress r

@@ -110,12 +110,14 @@ fn follow(
     Ok(Some(followed))
 }
 
-/// Where following has to end.
-fn end(object: Address, copy: Address, car_swept: bool) -> Option<Followed> {
+/// Where following has to end: at a pair of these words.
+fn end(object: Address, copy: Address, car_swept: bool, words: [u64; 2]) -> Option<Followed> {
     Some(Followed {
         object,
         copy,
         car_swept,
+        car: words[0],
+        cdr: words[1],
     })
 }
 
@@ -175,7 +177,7 @@ fn a_list_is_followed_to_its_end(rt: HostRuntime) -> Result<(), Fail> {
     let words = [[8, to(0, 1)], [to(0, 2), NIL], [16, 24]];
     let seen = run(rt.alloc(), &words, 0)?;
     let wanted = Seen {
-        end: end(pair(0, 2), pair(1, 2), true),
+        end: end(pair(0, 2), pair(1, 2), true, [16, 24]),
         count: 2,
         waiting: (0, None),
         copies: [
@@ -194,7 +196,7 @@ fn a_car_with_a_place_ends_it(rt: HostRuntime) -> Result<(), Fail> {
     let words = [[8, to(0, 1)], [to(0, 0), to(0, 2)], [16, NIL]];
     let seen = run(rt.alloc(), &words, 0)?;
     let wanted = Seen {
-        end: end(pair(0, 1), pair(1, 1), false),
+        end: end(pair(0, 1), pair(1, 1), false, [to(0, 0), to(0, 2)]),
         count: 1,
         waiting: (0, None),
         copies: [
@@ -214,7 +216,7 @@ fn a_full_segment_is_left(rt: HostRuntime) -> Result<(), Fail> {
     let words = [[to(0, 2), to(0, 1)], [8, NIL], [16, 24]];
     let seen = run(rt.alloc(), &words, 254)?;
     let wanted = Seen {
-        end: end(pair(0, 1), pair(2, 0), true),
+        end: end(pair(0, 1), pair(2, 0), true, [8, NIL]),
         count: 2,
         waiting: (1, Some((pair(0, 2), pair(1, 255)))),
         copies: [

@@ -23,4 +23,7 @@ pub struct Followed {
     pub copy: Address,
     /// Whether its car was swept.
     pub car_swept: bool,
+    /// Its words: what the collection still has to sweep.
+    pub car: u64,
+    pub cdr: u64,
 }

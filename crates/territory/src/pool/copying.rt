@@ -1,6 +1,7 @@
 //! Copies of starts in the segments of a pool.
 
 ghost use Rattle.std.specs.Prelude.{◌≡◌, ◌≢◌, ℕ, ◌<◌, false, true, length, vec_len, IfOk, OnOk, OnErr};
+ghost use Rattle.segment.specs.declared.space.Space.TheVariants as space;
 ghost use Rattle.segment.specs.Segments.{IsSound, IsStart, HasRoom, is_free, size_at};
 ghost use Rattle.territory.specs.Pools.{IsSettled, numbered};
 ghost use Rattle.territory.specs.Changes.{IsSame};
@@ -34,6 +35,26 @@ impl Pool {
         let offset = copy_start(&mut self.segments, from, k, n, size);
         self.counts.cells += cells;
         offset
+    }
+
+    /// The same for a pair: two words, and no cell.
+    #[inline(always)]
+    pub fn copy_pair(&mut self, from: usize, k: usize, n: usize) -> usize
+        requires settled { IsSettled self.old }
+        requires start { IsStart (numbered self.old.segments from) k }
+        requires within { n < length self.old.segments }
+        requires used { is_free (numbered self.old.segments n).role ≡ false }
+        requires from_space { (numbered self.old.segments from).space ≡ space.Pair }
+        requires space { (numbered self.old.segments n).space ≡ space.Pair }
+        requires room { HasRoom (numbered self.old.segments n) 2 }
+        ensures settled { IsSettled self.new }
+        ensures offset { result ≡ (numbered self.old.segments n).top }
+        ensures segments { self.new.segments ≡ with_copied self.old.segments from k n }
+        ensures areas { self.new.areas ≡ self.old.areas }
+        ensures lists { self.new.lists ≡ self.old.lists }
+        ensures dirty { self.new.dirty ≡ self.old.dirty }
+    {
+        copy_two(&mut self.segments, from, k, n)
     }
 
     /// Copies start `k` of segment `from`, which has more than 128 words, into a segment of its own, which is
@@ -102,15 +123,15 @@ fn copy_start(segments: &mut Vec<Segment>, from: usize, k: usize, n: usize, size
 
 /// The same for a start of two words, as pairs are: no call and no loop for its words.
 #[inline(always)]
-fn copy_two(segments: &mut [Segment], from: usize, k: usize, n: usize) -> usize
-    requires sound { (m : ℕ) → IsSound (numbered segments.old m) }
-    requires start { IsStart (numbered segments.old from) k }
-    requires size_is { 2 ≡ size_at (numbered segments.old from) k }
-    requires within { n < length segments.old }
-    requires space { (numbered segments.old from).space ≡ (numbered segments.old n).space }
-    requires room { HasRoom (numbered segments.old n) 2 }
-    ensures offset { result ≡ (numbered segments.old n).top }
-    ensures after { segments.new ≡ with_copied segments.old from k n }
+fn copy_two(segments: &mut Vec<Segment>, from: usize, k: usize, n: usize) -> usize
+    requires sound { (m : ℕ) → IsSound (numbered segments.old.items m) }
+    requires start { IsStart (numbered segments.old.items from) k }
+    requires size_is { 2 ≡ size_at (numbered segments.old.items from) k }
+    requires within { n < vec_len segments.old }
+    requires space { (numbered segments.old.items from).space ≡ (numbered segments.old.items n).space }
+    requires room { HasRoom (numbered segments.old.items n) 2 }
+    ensures offset { result ≡ (numbered segments.old.items n).top }
+    ensures after { segments.new.items ≡ with_copied segments.old.items from k n }
 {
     let (first, second) = segments[from].two_words(k);
     let birth = segments[from].birth(k);

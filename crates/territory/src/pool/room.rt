@@ -2,6 +2,7 @@
 
 ghost use Rattle.std.specs.Prelude.{◌≡◌, ◌+◌, ◌*◌, ◌<◌, ◌≤◌, cond, is_some, length, slice_index_or, slice_set, Some, None, IfOk, IfSome, OnErr};
 ghost use Rattle.gc_words.specs.declared.address.TheConstants.{OFFSETS};
+ghost use Rattle.segment.specs.declared.space.Space.TheVariants as space;
 ghost use Rattle.territory.specs.Pools.{IsSettled};
 ghost use Rattle.territory.specs.Changes.{IsSame, IsOpened, IsOpenRoom, IsRoom};
 
@@ -103,5 +104,33 @@ impl Pool {
         let more = open_area(&mut self.areas, area, n);
         self.counts.open_areas += more;
         Ok(n)
+    }
+
+    /// The same for a pair.
+    #[inline(always)]
+    pub fn room_for_pair(&mut self, generation: u8) -> Result<usize, AllocError>
+        requires settled { IsSettled self.old }
+        requires generation_in { generation < 9 }
+        ensures settled { IsSettled self.new }
+        ensures ok { IfOk result (λ n. IsRoom self.old self.new space.Pair generation 2 n) }
+        ensures err { OnErr result (IsSame self.old self.new) }
+    {
+        let area = Space::Pair.index() * GENERATIONS + usize::from(generation);
+        if let Some(n) = self.open_room(area, 2) {
+            return Ok(n);
+        }
+        self.open_for_pair(generation)
+    }
+
+    /// The same where the open segment may be full: out of the way of the many pairs that find room there.
+    #[inline(never)]
+    fn open_for_pair(&mut self, generation: u8) -> Result<usize, AllocError>
+        requires settled { IsSettled self.old }
+        requires generation_in { generation < 9 }
+        ensures settled { IsSettled self.new }
+        ensures ok { IfOk result (λ n. IsRoom self.old self.new space.Pair generation 2 n) }
+        ensures err { OnErr result (IsSame self.old self.new) }
+    {
+        self.room_for(Space::Pair, generation, 2)
     }
 }

@@ -5,6 +5,7 @@ ghost use Rattle.std.specs.FinMap as map;
 ghost use Rattle.gc_words.specs.Layout.{thread_of, segment_of, IsAddress};
 ghost use Rattle.territory.specs.Territories.{IsAsBefore, AreCardsSound};
 ghost use Rattle.territory.specs.Copies.{copy_in, IsPlacedLike, RefersToNoneBelow};
+ghost use Rattle.territory.specs.Following.{IsCopyOf, IsPairAt};
 
 use super::{Territory, place};
 use crate::pool::GREATEST_SHARED;
@@ -44,6 +45,25 @@ impl Territory {
         }
         let n = self.pool.room_for(space, generation, size)?;
         let offset = self.pool.copy(segment, start, n, size);
+        Ok(Address::at(self.thread, n as u64, offset as u32))
+    }
+
+    /// The same for a pair: its space and its size are known, so that little is looked at where the open segment has
+    /// room.
+    #[inline(always)]
+    pub fn copy_pair(&mut self, at: Address, generation: u8) -> Result<Address, AllocError>
+        requires pair { IsPairAt self.old at }
+        requires generation_in { generation ≤ 8 }
+        ensures copied { IfOk result (λ a. IfSome (map.get self.old.starts at)
+            (IsCopyOf self.old self.new at generation a)) }
+        ensures refused { OnErr result (IsAsBefore self.old self.new) }
+        ensures thread { self.new.thread ≡ self.old.thread }
+        ensures dirty { self.new.dirty ≡ self.old.dirty }
+        ensures targets { self.new.targets ≡ self.old.targets }
+    {
+        let (segment, start) = place(at);
+        let n = self.pool.room_for_pair(generation)?;
+        let offset = self.pool.copy_pair(segment, start, n);
         Ok(Address::at(self.thread, n as u64, offset as u32))
     }
 }

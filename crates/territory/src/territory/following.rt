@@ -2,7 +2,7 @@
 
 ghost use Rattle.std.specs.Prelude.{◌≡◌, ℕ, ◌<◌, false, IfOk, IfSome, IfNone, IsTrue, IsFalse, OnErr, length};
 ghost use Rattle.std.specs.FinMap as map;
-ghost use Rattle.territory.specs.Following.{CanReach, HasTrail, IsLeft, IsPairAt, IsReached, IsSweptNow, IsTrail, IsTrailEnd, RefersToUnplaced, trail, word_at};
+ghost use Rattle.territory.specs.Following.{AreItsWords, CanReach, HasTrail, IsLeft, IsPairAt, IsReached, IsSweptNow, IsTrail, IsTrailEnd, RefersToUnplaced, trail, word_at};
 
 use super::{Territory, place};
 use crate::following::{CopyLog, Followed};
@@ -13,6 +13,14 @@ use trace_types::Kind;
 
 /// How many objects start in a segment that is shared, at most.
 const MOST: usize = 256;
+
+/// Where a run in the open segment stopped: at this pair, whose car was swept or was not.
+#[derive(Clone, Copy)]
+struct Stop {
+    object: Address,
+    copy: Address,
+    car_swept: bool,
+}
 
 impl Territory {
     /// Goes from pair to pair, from one on whose copy is known, as far as it can. It sweeps a pair's car and its cdr, and
@@ -42,6 +50,7 @@ impl Territory {
             (trail self.new places.new log.new.own.items log.new.waiting.items) e.object e.copy e.car_swept)) }
         ensures ends { IfOk result (λ e. IsTrailEnd
             (trail self.new places.new log.new.own.items log.new.waiting.items) e.object e.car_swept) }
+        ensures words { IfOk result (λ e. AreItsWords self.new e.object e.car e.cdr) }
         ensures anyhow { IfSome (map.get self.old.starts copy) (λ y. HasTrail y.generation
             (trail self.old places.old log.old.own.items log.old.waiting.items) object copy
             (trail self.new places.new log.new.own.items log.new.waiting.items)) }
@@ -53,15 +62,25 @@ impl Territory {
         loop {
             let end = self.follow_open(object, copy, places, log)?;
             if !self.sweep_car(end, places, log)? {
-                return Ok(end);
+                let (car, cdr) = self.pair_words(end.object);
+                return Ok(Followed {
+                    object: end.object,
+                    copy: end.copy,
+                    car_swept: end.car_swept,
+                    car,
+                    cdr,
+                });
             }
             match self.reach(end.object, end.copy, 1, places, log)? {
                 Some(next) => (object, copy) = next,
                 None => {
+                    let (car, cdr) = self.pair_words(end.object);
                     return Ok(Followed {
                         object: end.object,
                         copy: end.copy,
                         car_swept: true,
+                        car,
+                        cdr,
                     });
                 }
             }
@@ -75,7 +94,7 @@ impl Territory {
         copy: Address,
         places: &mut [u64],
         log: &mut CopyLog,
-    ) -> Result<Followed, AllocError>
+    ) -> Result<Stop, AllocError>
         requires object { IsPairAt self.old object }
         requires copy { IsPairAt self.old copy }
         requires places { length places.old ≡ 256 }
@@ -95,7 +114,7 @@ impl Territory {
             to: copy.segment() as usize,
         };
         if !self.pool.can_follow(between) {
-            return Ok(Followed {
+            return Ok(Stop {
                 object,
                 copy,
                 car_swept: false,
@@ -110,11 +129,20 @@ impl Territory {
             .pool
             .follow(between, k, copy.offset() as usize, places, log);
         log.count = before + u64::from(end.tip.count);
-        Ok(Followed {
+        Ok(Stop {
             object: between.object(end.tip.start),
             copy: between.copy(end.tip.offset),
             car_swept: end.car_swept,
         })
+    }
+
+    /// Both words of a pair.
+    #[inline(always)]
+    fn pair_words(&self, at: Address) -> (u64, u64)
+        requires pair { IsPairAt self.now at }
+        ensures { AreItsWords self.now at result.0 result.1 }
+    {
+        (self.pair_word(at, 0), self.pair_word(at, 1))
     }
 
     /// A word of a pair.
@@ -226,7 +254,7 @@ impl Territory {
     /// that can be copied. Gives whether it is swept now. Refused, at most the lists of segments have changed.
     fn sweep_car(
         &mut self,
-        end: Followed,
+        end: Stop,
         places: &mut [u64],
         log: &mut CopyLog,
     ) -> Result<bool, AllocError>

@@ -1,5 +1,5 @@
 use Rattle.territory.specs.Following.{trail}
-use Rattle.sweep_share.proofs.Following.{shown_end, shown_left, shown_share, shown_trail}
+use Rattle.sweep_share.proofs.Following.{shown_end, shown_left, shown_share, shown_trail, shown_words}
 use Rattle.sweep_share.proofs.share.Share.follow.Goals as goal
 
 pub invariant_of-self : goal.invariant_of-self
@@ -55,3 +55,13 @@ returns-clause-anyhow c =
     (trail c.follow.new.self c.follow.new.places c.follow.new.log.own.items c.follow.new.log.waiting.items)
     c.self.invariant.0 c.index-i.ensures.thread c.index-i.ensures.value c.index-i.ensures.within c.requires.object
     c.requires.copy c.requires.thread c.index_mut.ensures.value c.follow.ensures.anyhow
+
+pub returns-clause-words : goal.returns-clause-words
+returns-clause-words c =
+    shown_words _ c.args.self.now c.self.view_is c.index-i.result c.args.object c.args.copy
+    (trail c.index_mut.result.now c.args.places.now c.args.log.now.own.items c.args.log.now.waiting.items)
+    (trail c.follow.new.self c.follow.new.places c.follow.new.log.own.items c.follow.new.log.waiting.items)
+    c.self.invariant.0 c.index-i.ensures.thread c.index-i.ensures.value c.index-i.ensures.within c.requires.object
+    c.requires.copy c.requires.thread c.index_mut.ensures.value
+    c.in_ok-followed.followed.object c.in_ok-followed.followed.copy c.in_ok-followed.followed.car
+    c.in_ok-followed.followed.cdr c.in_ok-followed.followed.car_swept c.in_ok-followed.ensures.trail c.in_ok-followed.ensures.words

@@ -68,3 +68,12 @@ pub returns-in-None-clause-ends : goal.returns-in-None-clause-ends
 returns-in-None-clause-ends c =
     subst (λ u. CanReach u c.in_ok-end.end.object 1 → ⊥) (sym (subst (λ u. IfNone u ((trail c.reach.new.self c.reach.new.places c.reach.new.log.own.items c.reach.new.log.waiting.items) ≡ (trail c.sweep_car.new.self c.sweep_car.new.places c.sweep_car.new.log.own.items c.sweep_car.new.log.waiting.items))) c.in-None.is c.in_ok-next.ensures.same))
     (subst (λ u. IfNone u (CanReach (trail c.sweep_car.new.self c.sweep_car.new.places c.sweep_car.new.log.own.items c.sweep_car.new.log.waiting.items) c.in_ok-end.end.object 1 → ⊥)) c.in-None.is c.in_ok-next.ensures.none)
+
+pub pair_words-car-requires : goal.pair_words-car-requires
+pair_words-car-requires c = record { pair = (under_same _ _ _ _ _ _ _ _ _ (c.in_ok-sweep_car.ensures.same c.if-not-branch.true) (under_open _ _ _ _ _ _ _ _ _ _ _ c.loop-end.invariant.0 c.in_ok-end.ensures.trail)).kept.object }
+
+pub pair_words-car-requires-in-None : goal.pair_words-car-requires-in-None
+pair_words-car-requires-in-None c = record {
+  pair =
+      (under_same _ _ _ _ _ _ _ _ _ (subst (λ u. IfNone u ((trail c.reach.new.self c.reach.new.places c.reach.new.log.own.items c.reach.new.log.waiting.items) ≡ (trail c.sweep_car.new.self c.sweep_car.new.places c.sweep_car.new.log.own.items c.sweep_car.new.log.waiting.items))) c.in-None.is c.in_ok-next.ensures.same) (under_swept _ _ _ _ _ _ _ _ _ (under_open _ _ _ _ _ _ _ _ _ _ _ c.loop-end.invariant.0 c.in_ok-end.ensures.trail) (c.in_ok-sweep_car.ensures.swept c.if-not-branch.false))).kept.object;
+}
