@@ -6,3 +6,4 @@ pub mod Raising
 pub mod Following
 pub mod EachOfThem
 pub mod Indices
+pub mod Spare

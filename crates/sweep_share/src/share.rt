@@ -141,6 +141,21 @@ impl Share {
         raise_all(&mut self.territories, cg);
     }
 
+    /// Takes the memory that its first territory keeps from one collection to the next. Nothing is said of what the vector
+    /// holds.
+    pub fn take_spare(&mut self) -> Vec<u64>
+        ensures { self.new ≡ self.old }
+    {
+        self.territories[0].take_spare()
+    }
+
+    /// Leaves memory with its first territory, for the next collection to take.
+    pub fn leave_spare(&mut self, memory: Vec<u64>)
+        ensures { self.new ≡ self.old }
+    {
+        self.territories[0].leave_spare(memory);
+    }
+
     /// The number of the sweeper.
     pub fn number(&self) -> u32
         ensures { result ≡ self.now.number }

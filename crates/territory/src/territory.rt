@@ -13,6 +13,7 @@ mod finishing;
 mod following;
 mod listing;
 mod olds;
+mod spare;
 
 use crate::pool::Pool;
 use gc_words::{Address, THREADS};
@@ -39,6 +40,8 @@ pub struct Territory {
     pool: Pool,
     /// Those of the last collection that began.
     targets: Targets,
+    /// Memory that a collection left for the next, whatever it holds.
+    spare: Vec<u64>,
 }
 
 impl Model for Territory {
@@ -83,6 +86,7 @@ impl Territory {
             thread,
             pool,
             targets,
+            spare: Vec::new(alloc),
         })
     }
 
