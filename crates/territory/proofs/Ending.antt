@@ -14,6 +14,7 @@ use Rattle.territory.specs.Copies.{copy_in, IsPlacedLike, RefersToNoneBelow}
 use Rattle.territory.specs.Territories.{IsShaped, TerritoryView, put_start, words_of, AreCardsSound}
 use Rattle.territory.specs.Pools.{IsSettled, PoolView, territory_view}
 use Rattle.territory.specs.Following.{HasTrail, IsLeft, word_at, CanReach, IsTrailEnd, AreFollowed, IsCarSwept, IsCdrSwept, IsCopyOf, IsPairAt, IsReached, IsSweptNow, IsTaken, IsTrail, IsWordPut, Trail, RefersToUnplaced, trail}
+use Rattle.territory.proofs.Present.{present}
 use Rattle.territory.proofs.Trailing.{trail_none}
 use Rattle.territory.proofs.Slots.{get_here, get_other}
 use Rattle.territory.proofs.Reading.{all_shaped, if_some}
@@ -30,6 +31,11 @@ two_words x s e = s.its_words ∙ ap (λ k. words_after k x.length) e
 pub pair_index : (thread : ℕ) (pool : PoolView) (targets : Targets) (now : TerritoryView) (a index : ℕ) → IsSettled pool → territory_view thread pool targets ≡ now → IsPairAt now a → index < 2 → index < length (words_of (get now.starts a))
 pair_index thread pool targets now a index s e (x, has, kind) i =
     subst (λ o. index < length (words_of o)) (sym has) (omega (arith, two_words x (all_shaped thread pool targets now s e a x has) kind))
+
+-- a pair of a territory is of its thread
+pub pair_thread : (thread : ℕ) (pool : PoolView) (targets : Targets) (now : TerritoryView) (a : ℕ) → IsSettled pool → territory_view thread pool targets ≡ now → IsPairAt now a → thread_of a ≡ now.thread
+pair_thread thread pool targets now a s e (x, has, kind) =
+    (present thread pool a x s (ap (λ (v : TerritoryView). get v.starts a) e ∙ has)).thread_is ∙ ap (λ (v : TerritoryView). v.thread) e
 
 -- ---- pairs that stay
 

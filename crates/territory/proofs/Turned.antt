@@ -4,7 +4,9 @@ use Rattle.std.proofs.lemmas.Bool.Decides.{nat_tests}
 use Rattle.std.specs.Int.Bits.{or_shifted_r}
 use Rattle.gc_words.specs.declared.value.Value.TheVariants.{Object}
 use Rattle.gc_words.specs.Word.{value_of}
-use Rattle.gc_words.specs.Layout.{address_of}
+use Rattle.gc_words.specs.Layout.{address_of, offset_of, segment_of, thread_of}
+use Rattle.gc_words.proofs.LayoutLaws.{address_of-its_parts}
+use Rattle.gc_words.proofs.WordLaws.{word_of-object}
 
 word_object : (w : ℕ) → w % 16 ≡ 1 → value_of w ≡ Some (Object (w / 8))
 unfolding value_of
@@ -38,3 +40,19 @@ start_turned w first less k thread segment fits t n form by turn few =
     let tag : w % 16 ≡ 1 = omega (arith, word, form, even) in
     let number : w / 8 ≡ address_of thread segment 0 + 2 * k = omega (arith, word, form) in
     word_object w tag ∙ ap (λ a. Some (Object a)) (number ∙ sym (offset_more thread segment k))
+
+-- an address by its parts, as a number
+parts_sum : (a : ℕ) → (thread_of a * 4294967296 + segment_of a) * 8388608 + offset_of a ≡ a
+unfolding address_of
+parts_sum a = address_of-its_parts a
+
+pub offset_below : (a : ℕ) → offset_of a ≤ a
+offset_below a = omega (arith, parts_sum a)
+
+-- A word that refers to an object in the first 512 words of the segment of a has the upper bits of the word of the segment's
+-- first object.
+pub same_block : (a b w o : ℕ) → value_of w ≡ Some (Object b) → segment_of b ≡ segment_of a → thread_of b ≡ thread_of a → offset_of b < 512 → o ≡ offset_of a
+    → (a * 8 + 1 - 8 * o) / 4096 ≡ w / 4096
+same_block a b w o refers segment thread inside is =
+    let word : b * 8 + 1 ≡ w = word_of-object w b refers in
+    omega (arith, word, parts_sum a, parts_sum b, segment, thread, inside, is)

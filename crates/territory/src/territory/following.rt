@@ -1,7 +1,10 @@
 //! Pairs that are copied in one go, for a collection that moves them.
 
-ghost use Rattle.std.specs.Prelude.{◌≡◌, ℕ, ◌<◌, false, IfOk, IfSome, IfNone, IsTrue, IsFalse, OnErr, length};
+ghost use Rattle.std.specs.Prelude.{◌≡◌, ℕ, ◌<◌, false, Some, IfOk, IfSome, IfNone, IsTrue, IsFalse, OnErr, length};
 ghost use Rattle.std.specs.FinMap as map;
+ghost use Rattle.gc_words.specs.declared.value.Value.TheVariants as value;
+ghost use Rattle.gc_words.specs.Layout.{offset_of, segment_of, thread_of};
+ghost use Rattle.gc_words.specs.Word.{value_of};
 ghost use Rattle.territory.specs.Following.{AreItsWords, CanReach, HasTrail, IsLeft, IsPairAt, IsReached, IsSweptNow, IsTrail, IsTrailEnd, RefersToUnplaced, trail, word_at};
 
 use super::{Territory, place};
@@ -22,6 +25,19 @@ struct Stop {
     car_swept: bool,
 }
 
+/// How far apart the words of references are to the beginnings of two times 512 words, one behind the other.
+const BLOCK: u64 = 4096;
+
+/// Whether a word refers to nothing in the first 512 words of an object's segment, by one comparison.
+#[inline(always)]
+fn leads_away(object: Address, word: u64) -> bool
+    ensures { IsTrue result → (b : ℕ) → value_of word ≡ Some (value.Object b) → segment_of b ≡ segment_of object
+        → thread_of b ≡ thread_of object → offset_of b < 512 → ⊥ }
+{
+    let first = encode(Value::Object(object)) - 8 * u64::from(object.offset());
+    word / BLOCK != first / BLOCK
+}
+
 impl Territory {
     /// Goes from pair to pair, from one on whose copy is known, as far as it can. It sweeps a pair's car and its cdr, and
     /// goes on with the pair to which the cdr refers. A field is swept where it refers to no object, or to a pair in the
@@ -34,6 +50,8 @@ impl Territory {
     /// right.
     ///
     /// So lists and trees are copied with few look-ups. That it is done by segments is this project's own.
+    // What it calls for each run is part of it, and in a larger function the loop would share the machine's registers.
+    #[inline(never)]
     pub fn follow(
         &mut self,
         object: Address,
@@ -88,6 +106,7 @@ impl Territory {
     }
 
     /// Follows pairs as long as the open segment has room, where the copy stands in that. Refused, nothing has changed.
+    #[inline(always)]
     fn follow_open(
         &mut self,
         object: Address,
@@ -150,7 +169,8 @@ impl Territory {
     fn pair_word(&self, at: Address, index: u32) -> u64
         requires pair { IsPairAt self.now at }
         requires index { index < 2 }
-        ensures { result ≡ word_at self.now at index }
+        ensures word { result ≡ word_at self.now at index }
+        ensures thread { thread_of at ≡ self.now.thread }
     {
         let (segment, start) = place(at);
         self.pool.segment(segment).word(start, index as usize)
@@ -165,7 +185,12 @@ impl Territory {
         ensures some { IfSome result (RefersToUnplaced self.now places.now object index) }
         ensures none { IfNone result ((b : ℕ) → RefersToUnplaced self.now places.now object index b → ⊥) }
     {
-        let at = object_in(self.pair_word(object, index))?;
+        let word = self.pair_word(object, index);
+        // So it is at the end of most runs.
+        if leads_away(object, word) {
+            return None;
+        }
+        let at = object_in(word)?;
         let entry = at.offset() as usize / 2;
         if at.segment() != object.segment() || entry >= MOST || places[entry] != 0 {
             return None;
@@ -179,6 +204,7 @@ impl Territory {
 
     /// Copies a pair that lies in the same segment and has no place, to which a word of a pair refers, and puts its place
     /// into the same word of that pair's copy. Gives the place. Refused, at most the lists of segments have changed.
+    #[inline(never)]
     fn copy_unplaced(
         &mut self,
         object: Address,
@@ -252,6 +278,7 @@ impl Territory {
 
     /// Sweeps the car of the pair where following ended, if it was not swept, where it refers to no object or to a pair
     /// that can be copied. Gives whether it is swept now. Refused, at most the lists of segments have changed.
+    #[inline(always)]
     fn sweep_car(
         &mut self,
         end: Stop,

@@ -7,7 +7,7 @@ pub returns-in-None-clause-ends : goal.returns-in-None-clause-ends
 returns-in-None-clause-ends c = λ _. (
   c.if-end.false,
   stuck (trail c.args.self.now c.args.places.now c.args.log.now.own.items c.reserve.new.self.items) (trail c.reach.new.self c.reach.new.places c.reach.new.log.own.items c.reach.new.log.waiting.items)
-      c.args.end.object c.pair_word.result c.object_in.result c.in_ok-reached.field-0 (c.is_none.ensures ∙ ap not c.if-is_none.false) c.object_in.ensures.some c.pair_word.ensures
+      c.args.end.object c.pair_word.result c.object_in.result c.in_ok-reached.field-0 (c.is_none.ensures ∙ ap not c.if-is_none.false) c.object_in.ensures.some c.pair_word.ensures.word
       c.in_ok-reached.ensures.same c.in_ok-reached.ensures.none c.in-None.is,
 )
 
