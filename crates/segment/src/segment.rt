@@ -3,7 +3,7 @@
 ghost use Rattle.std.specs.Prelude.{◌≡◌, ◌+◌, ◌/◌, ◌*◌, ◌<◌, ◌↔◌, false, length, slice_index, IsTrue};
 ghost use Rattle.segment.specs.Layout.{size_of};
 ghost use Rattle.segment.specs.declared.space.Space.TheVariants.{Pair};
-ghost use Rattle.segment.specs.Segments.{IsStart, HasRoom, count_of_births, is_some_marked, object_at, place_in, grown, put_in, marked_at};
+ghost use Rattle.segment.specs.Segments.{IsStart, HasRoom, count_of_births, is_free, is_some_marked, object_at, place_in, grown, put_in, marked_at};
 
 mod aging;
 mod collecting;
@@ -151,6 +151,40 @@ impl Segment {
         ensures { IsTrue result ↔ HasRoom self.now size }
     {
         size <= self.words.len() - self.top && self.top < 2 * self.births.len()
+    }
+
+    /// The same for an object of two words.
+    #[inline(always)]
+    pub fn has_room_for_two(&self) -> bool
+        ensures { IsTrue result ↔ HasRoom self.now 2 }
+    {
+        self.top < 2 * self.births.len()
+    }
+
+    /// Where the next object would start.
+    #[inline(always)]
+    pub fn top(&self) -> usize
+        ensures { result ≡ self.now.top }
+    {
+        self.top
+    }
+
+    /// How many objects and cells can start in it.
+    #[inline(always)]
+    pub fn possible_starts(&self) -> usize
+        ensures { result ≡ length self.now.births }
+    {
+        self.births.len()
+    }
+
+    /// Whether an object or cell starts at offset 2 k of a segment in use.
+    #[inline(always)]
+    pub fn starts_at(&self, k: usize) -> bool
+        requires used { is_free self.now.role ≡ false }
+        requires within { k < length self.now.births }
+        ensures { IsTrue result ↔ IsStart self.now k }
+    {
+        self.births[k] > 0
     }
 
     /// Whether an object or cell starts at the offset, in words.
