@@ -1,3 +1,4 @@
+pub mod Nils
 pub mod Kept
 pub mod Changed
 pub mod Plain

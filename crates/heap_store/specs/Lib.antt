@@ -12,3 +12,4 @@ pub mod Opening
 pub mod Parts
 pub mod Fields
 pub mod Shapes
+pub mod Used

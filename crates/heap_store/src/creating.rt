@@ -162,7 +162,7 @@ impl Heap {
         match make_object(territory, line, shape) {
             Ok(at) => {
                 self.last = line;
-                self.registers[d.number() as usize] = Value::Object(at);
+                self.registers.set(d, Value::Object(at));
                 Ok(())
             }
             Err(_) => {

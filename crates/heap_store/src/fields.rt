@@ -48,7 +48,7 @@ impl Heap {
             return Err(HeapError::Fault(Fault::BadIndex));
         }
         let value = field(territory, at, index);
-        self.registers[d.number() as usize] = value;
+        self.registers.set(d, value);
         Ok(())
     }
 
@@ -129,7 +129,7 @@ impl Heap {
         ensures place { result ≡ place_in (slice_index_or self.now.registers register Value.Nil) }
         ensures there { IfSome result (λ a. IsTrue (is_object (starts_of self.now a))) }
     {
-        match self.registers[register.number() as usize] {
+        match self.registers.get(register) {
             Value::Object(at) => Some(at),
             _ => None,
         }

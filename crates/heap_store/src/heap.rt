@@ -1,6 +1,6 @@
 //! The heap: its parts, and the calls that look at no object.
 
-ghost use Rattle.std.specs.Prelude.{◌≡◌, ◌≢◌, ◌↔◌, ◌<◌, ◌≤◌, true, false, replicate, Ok, Err, IfOk, OnOk, OnErr, IsTrue};
+ghost use Rattle.std.specs.Prelude.{◌≡◌, ◌≢◌, ◌↔◌, ◌<◌, ◌≤◌, true, false, length, Ok, Err, IfOk, OnOk, OnErr, IsTrue};
 ghost use Rattle.trace_types.specs.States.{opening};
 ghost use Rattle.trace_types.specs.Steps.{step};
 ghost use Rattle.trace_types.specs.WellFormed.{greatest_line, operand_fits};
@@ -9,18 +9,18 @@ ghost use Rattle.heap_store.specs.Changes.{HaveSoundCards};
 ghost use Rattle.heap_store.specs.Stands.{Stands};
 ghost use Rattle.heap_store.specs.Calls.{Performs, PerformsOnAnyLine, IsLeft, IsValid, operand_value};
 ghost use Rattle.heap_store.specs.Opening.{AreNew};
+ghost use Rattle.heap_store.specs.Used.{HoldNoneFrom};
 
 use crate::error::HeapError;
 use crate::locks::Locks;
 use crate::notes::Notes;
+use crate::registers::Registers;
 use crate::registry::Registry;
 use gc_words::Value;
 use std::alloc::{AllocError, Global};
 use std::marker::Model;
 use territory::Territory;
 use trace_types::{Command, Fault, Operand, Register};
-
-const REGISTERS: usize = 4096;
 
 /// The objects of 64 threads, and what refers to them.
 #[derive(Drop)]
@@ -29,7 +29,7 @@ pub struct Heap {
     /// The newest line that the heap was given, 0 at first.
     pub(crate) last: u32,
     pub(crate) territories: Vec<Territory>,
-    pub(crate) registers: Vec<Value>,
+    pub(crate) registers: Registers,
     pub(crate) locks: Locks,
     pub(crate) notes: Notes,
     pub(crate) registry: Registry,
@@ -54,7 +54,7 @@ impl Model for Heap {
       failed = h.failed;
       last = h.last;
       territories = h.territories.items;
-      registers = h.registers.items;
+      registers = h.registers;
       locks = h.locks;
       notes = h.notes;
       registry = h.registry;
@@ -68,7 +68,7 @@ impl Model for Heap {
       failed = h.failed;
       last = h.last;
       territories = h.territories.items;
-      registers = h.registers.items;
+      registers = h.registers;
       locks = h.locks;
       notes = h.notes;
       registry = h.registry;
@@ -90,13 +90,6 @@ fn new_territories(alloc: Global) -> Result<Vec<Territory>, AllocError>
     Ok(territories)
 }
 
-// A number of registers that hold `nil`.
-fn new_registers(alloc: Global, count: usize) -> Result<Vec<Value>, AllocError>
-    ensures { IfOk result (λ v. v.items ≡ replicate count Value.Nil) }
-{
-    vec![in alloc; Value::Nil; count]
-}
-
 impl Heap {
     /// An empty heap with the generations 0 to `generations`, 1 to 7, beside the static one. Takes memory.
     pub fn new(alloc: Global, generations: u8) -> Result<Heap, AllocError>
@@ -106,7 +99,7 @@ impl Heap {
         ensures last { IfOk result (λ h. h.last ≡ 0) }
     {
         let territories = new_territories(alloc)?;
-        let registers = new_registers(alloc, REGISTERS)?;
+        let registers = Registers::new(alloc)?;
         let notes = Notes::new(alloc)?;
         Ok(Heap {
             failed: false,
@@ -168,8 +161,27 @@ impl Heap {
         if self.failed {
             return Err(HeapError::Failed);
         }
-        self.registers[d.number() as usize] = self.operand(value);
+        let value = self.operand(value);
+        self.registers.set(d, value);
         Ok(())
+    }
+
+    /// A bound on the registers that hold objects: no register from it on holds one. So who looks for objects need not
+    /// look at all registers. It rises where a register gets an object, and `narrow_registers` lowers it.
+    pub fn used_registers(&self) -> usize
+        ensures within { result ≤ length self.now.registers }
+        ensures none { HoldNoneFrom self.now.registers result }
+    {
+        self.registers.used()
+    }
+
+    /// Makes this the bound on the registers that hold objects. Takes no memory.
+    pub fn narrow_registers(&mut self, used: usize)
+        requires within { used ≤ length self.old.registers }
+        requires none { HoldNoneFrom self.old.registers used }
+        ensures { self.new ≡ self.old }
+    {
+        self.registers.narrow(used);
     }
 
     /// The value that the operand is, or that its register holds. Takes no memory, and has no fault.
@@ -191,7 +203,7 @@ impl Heap {
         ensures { result ≡ operand_value self.now.registers operand }
     {
         match operand {
-            Operand::Reg(register) => self.registers[register.number() as usize],
+            Operand::Reg(register) => self.registers.get(register),
             Operand::Fixnum(number) => Value::Fixnum(number),
             Operand::Nil => Value::Nil,
             Operand::True => Value::True,

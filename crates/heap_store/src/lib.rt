@@ -20,6 +20,7 @@ mod heap;
 mod locks;
 mod notes;
 mod parts;
+mod registers;
 mod registry;
 mod shape;
 

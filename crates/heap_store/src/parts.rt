@@ -7,6 +7,7 @@ ghost use Rattle.heap_store.specs.Calls.{IsValid};
 use crate::heap::Heap;
 use crate::locks::Locks;
 use crate::notes::Notes;
+use crate::registers::Registers;
 use crate::registry::Registry;
 use gc_words::Value;
 use std::mem;
@@ -52,11 +53,11 @@ impl Heap {
         ensures failed { self.new.failed ≡ true }
         ensures last { self.new.last ≡ self.old.last }
     {
-        let alloc = *self.registers.allocator();
+        let alloc = *self.territories.allocator();
         self.failed = true;
         Parts {
             territories: mem::replace(&mut self.territories, Vec::new(alloc)),
-            registers: mem::replace(&mut self.registers, Vec::new(alloc)),
+            registers: mem::replace(&mut self.registers, Registers::none(alloc)).into_values(),
             locks: mem::replace(&mut self.locks, Locks::new(alloc)),
             notes: mem::replace(&mut self.notes, Notes::none(alloc)),
             registry: mem::replace(&mut self.registry, Registry::new(alloc)),
@@ -74,7 +75,7 @@ impl Heap {
         ensures { self.new ≡ seen_parts parts }
     {
         self.territories = parts.territories;
-        self.registers = parts.registers;
+        self.registers = Registers::from_values(parts.registers);
         self.locks = parts.locks;
         self.notes = parts.notes;
         self.registry = parts.registry;

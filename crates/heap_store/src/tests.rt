@@ -89,3 +89,17 @@ fn a_failed_heap_answers_failed(rt: HostRuntime) -> Result<(), Fail> {
     }
     Ok(())
 }
+
+#[test]
+fn the_bound_rises_with_objects_alone(rt: HostRuntime) -> Result<(), Fail> {
+    let mut heap = Heap::new(rt.alloc(), 3)?;
+    let low = register(7)?;
+    let high = register(4095)?;
+    assert_eq!(rt; heap.mov(high, Operand::True), Ok(()));
+    assert_eq!(rt; heap.used_registers(), 0);
+    assert_eq!(rt; heap.cons(1, low, Operand::Nil, Operand::Nil), Ok(()));
+    assert_eq!(rt; heap.used_registers(), 8);
+    assert_eq!(rt; heap.mov(high, Operand::Reg(low)), Ok(()));
+    assert_eq!(rt; heap.used_registers(), 4096);
+    Ok(())
+}

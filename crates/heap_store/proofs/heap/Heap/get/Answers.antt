@@ -1,3 +1,4 @@
+use Rattle.std.proofs.Common.{refl}
 use Rattle.heap_store.proofs.Getting.{gets_nothing, gets_past, gets_seen, got_seen}
 use Rattle.heap_store.proofs.heap.Heap.get.Goals as goal
 
@@ -8,7 +9,7 @@ pub returns-then-index-length-clause-step : goal.returns-then-index-length-claus
 returns-then-index-length-clause-step c = λ s line stands. gets_past _ s line c.args.d c.args.s c.args.index _ _ _ c.in-Some.ensures c.home-territory.ensures.start c.length.ensures.value c.if-index-length.true stands
 
 pub invariant_of-self : goal.invariant_of-self
-invariant_of-self c = got_seen _ _ c.self.view_is c.self.invariant _ c.args.d c.args.s c.args.index _ _ _ _ c.number.ensures.is_it c.in-Some.ensures c.home-territory.ensures.start c.length.ensures.value c.if-index-length.false c.field-value.ensures
+invariant_of-self c = λ alive. rw c.set.ensures (got_seen _ _ c.self.view_is c.self.invariant c.args.d c.args.d c.args.s c.args.index _ _ _ _ refl c.in-Some.ensures c.home-territory.ensures.start c.length.ensures.value c.if-index-length.false c.field-value.ensures alive)
 
 pub returns-clause-step : goal.returns-clause-step
-returns-clause-step c = gets_seen _ _ c.self.view_is _ c.args.d c.args.s c.args.index _ _ _ _ c.number.ensures.is_it c.in-Some.ensures c.home-territory.ensures.start c.length.ensures.value c.if-index-length.false c.field-value.ensures
+returns-clause-step c = rw c.set.ensures (gets_seen _ _ c.self.view_is c.args.d c.args.d c.args.s c.args.index _ _ _ _ refl c.in-Some.ensures c.home-territory.ensures.start c.length.ensures.value c.if-index-length.false c.field-value.ensures)
