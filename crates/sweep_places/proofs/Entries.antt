@@ -208,6 +208,14 @@ module _ (p v : PlacesView) (first : ℕ) (table : List ℕ) (a w e : ℕ) (plac
       subst (λ (x : PlacesView). IsAbsent x.own a) view
       (is_absent p.directory p.number first table p.own places a its_own (λ q h. none q (ap value_of (sym read) ∙ h)))
 
+  -- the entry is 0 exactly where it has none
+  pub absent_told : ((e ≡ 0) → IsAbsent v.own a) × (IsAbsent v.own a → (e ≡ 0))
+  absent_told = (
+    (λ none. none_found (λ q h. zero_is q (ap value_of (sym none) ∙ h))),
+    (λ absent. sym read ∙ is_zero p.directory p.number first table p.own places a its_own
+        (subst (λ (x : PlacesView). IsAbsent x.own a) (sym view) absent)),
+  )
+
 -- another place noted there
 pub noted_there : (p v : PlacesView) (first : ℕ) (table : List ℕ) (a w e q : ℕ) (own : List (ℕ × ℕ))
     → ArePlaces p.directory p.number first table p.own → p ≡ v → IsOwnStart v.directory v.number a → w ≡ word_in v.directory a

@@ -1,11 +1,11 @@
 //! The places of a sweeper's own objects.
 
-ghost use Rattle.std.specs.Prelude.{◌≡◌, ◌+◌, ◌^◌, ◌<◌, ◌≤◌, [], ◌∷◌, ◌++◌, Contains, IfNone, IfOk, IfSome, MatchOption, OnErr, OnOk, length, replicate, Some};
+ghost use Rattle.std.specs.Prelude.{◌≡◌, ◌+◌, ◌^◌, ◌<◌, ◌≤◌, ◌↔◌, [], ◌∷◌, ◌++◌, Contains, IfNone, IfOk, IfSome, IsTrue, MatchOption, OnErr, OnOk, length, replicate, Some};
 ghost use Rattle.directory.specs.Directories.{sweeper_count, word_in};
 ghost use Rattle.sweep_model.specs.Hands.{IsAbsent};
 ghost use Rattle.directory.specs.Tables.{entry_at};
 ghost use Rattle.gc_words.specs.Layout.{segment_of, thread_of};
-ghost use Rattle.sweep_share.specs.Following.{IsPairIn, share_trail};
+ghost use Rattle.sweep_share.specs.Following.{AreItsWords, IsPairIn, share_trail};
 ghost use Rattle.sweep_share.specs.Following.{HasTrail as HasShareTrail, IsTrail as IsShareTrail, IsTrailEnd as IsShareTrailEnd};
 ghost use Rattle.sweep_share.specs.Shares.{start_in};
 ghost use Rattle.sweep_places.specs.Following.{HasTrail, IsOneSweep, IsTrail, IsTrailEnd, part_at, sweep_of, with_part};
@@ -92,6 +92,7 @@ fn follow_at(
         (share_trail share.new (part_at table.new entry) log.new.own.items log.new.waiting.items) e.object e.copy e.car_swept)) }
     ensures ends { IfOk result (λ e. IsShareTrailEnd
         (share_trail share.new (part_at table.new entry) log.new.own.items log.new.waiting.items) e.object e.car_swept) }
+    ensures words { IfOk result (λ e. AreItsWords share.new e.object e.car e.cdr) }
     ensures anyhow { IfSome (start_in share.old copy) (λ y. HasShareTrail y.generation
         (share_trail share.old (part_at table.old entry) log.old.own.items log.old.waiting.items) object copy
         (share_trail share.new (part_at table.new entry) log.new.own.items log.new.waiting.items)) }
@@ -141,6 +142,16 @@ impl Places {
             Value::Object(place) => Some(place),
             _ => None,
         }
+    }
+
+    /// Whether an object of its own, of which `word` is the word in the directory, was not forwarded.
+    #[inline(always)]
+    pub fn is_absent(&self, at: Address, word: usize) -> bool
+        requires word_is { word ≡ word_in self.now.directory at }
+        requires own { IsOwnStart self.now.directory self.now.number at }
+        ensures { IsTrue result ↔ IsAbsent self.now.own at }
+    {
+        self.table[word - self.first] == NO_PLACE
     }
 
     /// Puts the place of an object of its own into the table, as the last of so many.
@@ -197,8 +208,9 @@ impl Places {
     /// Goes from pair to pair in one from-segment of 512 words, from one on whose copy is known, as far as it can: each
     /// object that is copied on the way is forwarded, and what a car refers to is to be swept. Where a cdr refers to no
     /// object, the one that was forwarded last of those that are not swept may be taken. It ends exactly where a cdr
-    /// refers to no pair of the from-segment that was not forwarded, or a car to another object. Takes memory. Err where
-    /// it is refused, or where there would be more objects than a `u64` counts: what was forwarded until then is right.
+    /// refers to no pair of the from-segment that was not forwarded, or a car to another object; the words of the pair at
+    /// which it ends are told. Takes memory. Err where it is refused, or where there would be more objects than a `u64`
+    /// counts: what was forwarded until then is right.
     #[inline(always)]
     pub fn follow(
         &mut self,
@@ -216,6 +228,7 @@ impl Places {
         ensures trail { IfOk result (λ e. IfSome (start_in share.old copy) (λ y. IsTrail y.generation
             (sweep_of share.old self.old) object copy (sweep_of share.new self.new) e.object e.copy e.car_swept)) }
         ensures ends { IfOk result (λ e. IsTrailEnd (sweep_of share.new self.new) e.object e.car_swept) }
+        ensures words { IfOk result (λ e. AreItsWords share.new e.object e.car e.cdr) }
         ensures anyhow { IfSome (start_in share.old copy) (λ y. HasTrail y.generation
             (sweep_of share.old self.old) object copy (sweep_of share.new self.new)) }
     {

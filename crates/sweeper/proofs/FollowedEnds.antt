@@ -1,5 +1,5 @@
 -- Where following begins, and where it has come to.
-use Rattle.std.proofs.Common.{◌≡◌, ◌≢◌, ℕ, ◌≤◌, Bool, true, false, nat_le, Option, None, Some, IfSome, Contains, refl, sym, ap, subst, ◌∙◌, arith}
+use Rattle.std.proofs.Common.{◌≡◌, ℕ, ◌≤◌, Bool, true, false, nat_le, Option, None, Some, IfSome, Contains, slice_index, refl, sym, ap, subst, ◌∙◌, arith}
 use Rattle.std.proofs.lemmas.Bool.Decides.{nat_tests}
 use Rattle.std.proofs.lemmas.Option.{same_Some}
 use Rattle.gc_words.specs.Layout.{segment_of, thread_of}
@@ -9,19 +9,20 @@ use Rattle.gc_mail.specs.Recipients.{owner}
 use Rattle.territory.specs.declared.territory.Targets.{Targets}
 use Rattle.territory.specs.Finishing.{target_of}
 use Rattle.territory.specs.Following.{IfSwept}
+use Rattle.territory.specs.Territories.{words_of}
 use Rattle.directory.specs.declared.table.FromSegment.{FromSegment}
 use Rattle.directory.specs.Tables.{entry_at}
 use Rattle.directory.specs.Directories.{DirectoryView, found_at, from_at}
 use Rattle.directory.proofs.Finding.{found_none}
 use Rattle.sweep_model.specs.World.{World, goes_to, is_collected, is_young}
 use Rattle.sweep_share.specs.Shares.{IsPairOf, ShareView, start_in}
-use Rattle.sweep_share.specs.Following.{IsPairIn}
+use Rattle.sweep_share.specs.Following.{AreItsWords, IsPairIn, word_in}
 use Rattle.sweep_places.specs.Places.{PlacesView}
 use Rattle.sweep_places.specs.Following.{HasTrail, IsCarSwept, IsLeft, IsTrail, Sweep, sweep_of}
 use Rattle.sweeper.specs.declared.lists.NextPair.{NextPair}
 use Rattle.sweeper.specs.Sweepers.{FieldDone, IsJoined, IsNextPair, SweeperView, in_hand}
 use Rattle.sweeper.specs.Ready.{ComesTo, Ready}
-use Rattle.sweeper.proofs.FollowedPairs.{IsOn, car_done, car_swept, followed_on, its_entry, ready_on, with_sweep}
+use Rattle.sweeper.proofs.FollowedPairs.{IsOn, car_done, car_swept, followed_on, its_entry, ready_on, with_sweep, words_on}
 use Rattle.sweeper.proofs.InHand.{hand_next}
 use Rattle.sweeper.proofs.Kept.{goes_target, joined_share}
 use Rattle.sweeper.proofs.SweptFields.{there_same}
@@ -33,11 +34,6 @@ young_is : (o : Option Start) (y : Start) (cg : ℕ) → o ≡ Some y → is_you
 young_is o y cg e young =
     let is : nat_le y.generation cg ≡ true = sym (ap (is_young cg) e) ∙ young in
     grind (arith, nat_tests, is)
-
--- a pair is of no other kind
-pub not_other : (o : Option Start) (y : Start) → o ≡ Some y → y.kind ≡ kind.Pair → IfSome o (λ x. x.kind ≢ kind.Pair)
-    → ⊥
-not_other o y e pair other = subst (λ z. IfSome z (λ x. x.kind ≢ kind.Pair)) e other pair
 
 -- where nothing is followed, the pair in hand is the one to which it comes
 pub comes_nowhere : (s : SweeperView) (pair : NextPair) → IsNextPair s pair
@@ -57,12 +53,19 @@ joined_left s old new left joined =
     subst (λ (p : PlacesView). IsJoined (record s { share = new.share; places = p })) (sym left.places)
     (joined_share (with_sweep s old) new.share joined left.alike)
 
+-- the words that were told are those of the pair, which stays as it is
+words_told : (s t : ShareView) (b car cdr : ℕ) → AreItsWords s b car cdr → start_in s b ≡ start_in t b
+    → IsPairOf (start_in t b) (word_in t b 0) (word_in t b 1) → IsPairOf (start_in t b) car cdr
+words_told s t b car cdr its same words =
+    let car_is : word_in t b 0 ≡ car = sym (its.0 ∙ ap (λ o. slice_index (words_of o) 0) same) in
+    let cdr_is : word_in t b 1 ≡ cdr = sym (its.1 ∙ ap (λ o. slice_index (words_of o) 1) same) in
+    subst (IsPairOf (start_in t b) car) cdr_is (subst (λ w. IsPairOf (start_in t b) w (word_in t b 1)) car_is words)
+
 -- it has come to the pair at b, whose copy is at r, and whose car was swept then, or was not
 pub record HasCome (old new : SweeperView) (d : DirectoryView) (pair : NextPair) (b r : ℕ) (swept : Bool) : Type 0 where
   pub joined : IsJoined new
   pub directory : new.places.directory ≡ d
-  pub is_pair : IsPairIn new.share b
-  pub comes : (car cdr : ℕ) → IsPairOf (start_in new.share b) car cdr
+  pub comes : (car cdr : ℕ) → AreItsWords new.share b car cdr
       → ComesTo old new pair
       (record { pair = record { object = b; copy = r; car = car; cdr = cdr }; car_swept = swept })
 
@@ -201,12 +204,12 @@ module _ (s : SweeperView) (pair : NextPair) (ready : Ready (in_hand s pair.obje
           record {
             joined = end.joined;
             directory = end.directory;
-            is_pair = (on.pair.0, end.start ∙ on.pair.1, on.pair.2);
-            comes = λ car cdr words. record {
+            comes = λ car cdr its. record {
               before = with_sweep s mid;
               runs = on.runs;
               halfway = record {
-                words = subst (λ o. IsPairOf o car cdr) end.start words;
+                words = words_told new.share mid.share b car cdr its end.start
+                    (words_on s pair.object pair.copy ready d from g entry target mid b r on);
                 car = halfway swept new trail.car;
               };
               directory = on.same ∙ sym same;

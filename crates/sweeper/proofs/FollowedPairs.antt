@@ -141,7 +141,7 @@ module _ (s : SweeperView) (first copy : ℕ) (ready : Ready (in_hand s first co
     pub ready_on : Ready (in_hand (with_sweep s w) a q)
     ready_on = ready_after (in_hand s first copy) (in_hand (with_sweep s w) a q) ready on.runs
 
-    words_on : IsPairOf (start_in w.share a) pair_on.car pair_on.cdr
+    pub words_on : IsPairOf (start_in w.share a) pair_on.car pair_on.cdr
     words_on =
         let n = next_start (in_hand (with_sweep s w) a q) a q ready_on (hand_next (with_sweep s w) a q) in
         let is : on.pair.0 ≡ n.0 = same_Some _ _ (sym on.pair.1 ∙ n.1) in

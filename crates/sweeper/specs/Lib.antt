@@ -1,3 +1,4 @@
 pub mod Sweepers
 pub mod Ready
 pub mod Starting
+pub mod Looked

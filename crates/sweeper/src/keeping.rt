@@ -4,6 +4,7 @@ ghost use Rattle.std.specs.Prelude.{◌≡◌, ◌<◌, ◌≤◌, IfOk, length}
 ghost use Rattle.territory.specs.Territories.{words_of};
 ghost use Rattle.directory.specs.Directories.{word_in};
 ghost use Rattle.sweep_model.specs.Hands.{IsAbsent};
+ghost use Rattle.sweep_share.specs.Following.{IsPairIn};
 ghost use Rattle.sweep_share.specs.Shares.{start_in};
 ghost use Rattle.sweeper.specs.Sweepers.{CanKeep, Copies, GoesTo, HasField, HasWord, IsAtIn, IsKept, Puts, Writes, in_hand};
 
@@ -50,7 +51,7 @@ impl Sweeper {
         Ok(place)
     }
 
-    /// The same, where the caller sweeps the object now.
+    /// The same for a pair that the caller sweeps now.
     #[inline(always)]
     pub(crate) fn copy_taken(
         &mut self,
@@ -63,9 +64,10 @@ impl Sweeper {
         requires goes { GoesTo self.old target generation }
         requires generation_in { generation ≤ 8 }
         requires absent { IsAbsent self.old.places.own target }
+        requires pair { IsPairIn self.old.share target }
         ensures { IfOk result (λ place. Copies self.old (in_hand self.new target place) target place) }
     {
-        let place = self.share.copy(target, generation)?;
+        let place = self.share.copy_pair(target, generation)?;
         self.places.note_taken(target, word, place)?;
         Ok(place)
     }

@@ -14,16 +14,23 @@ ghost use Rattle.territory.specs.Territories.{words_of};
 ghost use Rattle.sweep_model.specs.Hands.{IsAbsent};
 ghost use Rattle.sweep_share.specs.Shares.{IsPairOf, start_in};
 ghost use Rattle.sweeper.specs.Sweepers.{CanKeep, FieldDone, IsHalfway, IsNextPair, SweeperView, asked_in, in_hand, left_of, with_next};
+ghost use Rattle.sweeper.specs.Looked.{HasEntry};
 ghost use Rattle.sweeper.specs.Ready.{ComesTo, HasBegun, Ready, Runs};
 
 use crate::Sweeper;
 use crate::fields::{Asked, referred};
-use directory::{Directory, Near};
-use gc_words::Address;
+use directory::{Directory, FromSegment, Near};
+use gc_words::{Address, Value, encode};
 use std::alloc::AllocError;
 
 /// How many words a from-segment has in which pairs lie.
 const SHARED: u32 = 512;
+
+/// The lowest bits of a word, which tell that it refers to an object.
+const TAG_BITS: u32 = 3;
+
+/// Where two words have the same tag, what they differ in is less than this once the tag is turned to the top.
+const NO_OBJECT: u64 = 1 << 61;
 
 /// A pair that was forwarded and is swept next, with its words, which stayed as they were at its old place.
 #[derive(Clone, Copy)]
@@ -35,15 +42,14 @@ pub(crate) struct NextPair {
 }
 
 impl NextPair {
-    /// Whether its cdr refers to an object in another segment, so that it leads to none that is copied in one go with it.
+    /// Whether its cdr refers to an object in another segment, so that it leads to none that is copied in one go with it:
+    /// then the words of the two differ above the offsets in a segment, and the tag is the same. Rotated, the tag stands
+    /// above all others, so that one comparison tells both.
     #[inline(always)]
     fn leads_away(&self) -> bool {
-        match referred(self.cdr) {
-            Some(target) => {
-                target.segment() != self.object.segment() || target.thread() != self.object.thread()
-            }
-            None => false,
-        }
+        let own = encode(Value::Object(self.object));
+        let apart = (own ^ self.cdr).rotate_right(TAG_BITS);
+        apart >= u64::from(SHARED) && apart < NO_OBJECT
     }
 }
 
@@ -65,7 +71,7 @@ impl Sweeper {
         ensures absent { IfSome result (λ words. IsAbsent self.now.places.own target) }
         ensures pair { IfSome result (λ words. IsPairOf (start_in self.now.share target) words.0 words.1) }
     {
-        if !self.share.is_own(target) || self.places.place_of(target, word).is_some() {
+        if !self.share.is_own(target) || !self.places.is_absent(target, word) {
             return None;
         }
         self.share.pair(target)
@@ -85,6 +91,7 @@ impl Sweeper {
             → CanKeep self.old asked.target }
         ensures done { IfOk result (λ next. FieldDone self.old (with_next self.new next) pair.object pair.copy 1) }
         ensures next { IfOk result (λ next. IfSome next (IsNextPair self.old)) }
+        ensures object { IfOk result (λ next. IfSome next (λ pair. pair.object ≡ asked.target)) }
     {
         let Some((car, cdr)) = self.fresh_pair(asked.target, asked.found.word) else {
             self.sweep_field(pair.object, pair.copy, asked)?;
@@ -102,22 +109,15 @@ impl Sweeper {
 
     /// Sweeps pairs in one go, from one on, as long as each leads to the next in the same from-segment and no car refers
     /// to another place. Where a cdr refers to no object, it goes on with the pair that waits last, where that lies in the
-    /// same from-segment. Answers the pair to which it came: the first one where its cdr leads away, or where its
+    /// same from-segment, `from`. Answers the pair to which it came: the first one where its cdr leads away, or where its
     /// from-segment hasn't `SHARED` words.
-    fn follow(
-        &mut self,
-        pair: NextPair,
-        near: &mut Near,
-        directory: &Directory,
-    ) -> Result<BegunPair, AllocError>
-        requires same { self.old.places.directory ≡ directory.now }
-        requires near { IsNear directory.now near.old }
+    fn follow(&mut self, pair: NextPair, from: FromSegment) -> Result<BegunPair, AllocError>
+        requires from { HasEntry self.old.places.directory pair.object from }
         requires ready { Ready (in_hand self.old pair.object pair.copy) }
         requires words { IsNextPair self.old pair }
         ensures comes { IfOk result (λ b. ComesTo self.old self.new pair b) }
-        ensures directory { OnOk result (self.new.places.directory ≡ directory.now) }
+        ensures directory { OnOk result (self.new.places.directory ≡ self.old.places.directory) }
         ensures inbox { OnOk result (self.new.inbox ≡ self.old.inbox) }
-        ensures near { IsNear directory.now near.new }
     {
         if pair.leads_away() {
             return Ok(BegunPair {
@@ -125,10 +125,7 @@ impl Sweeper {
                 car_swept: false,
             });
         }
-        let Some(_) = directory.find_near(near, pair.object) else {
-            unreachable!()
-        };
-        if near.from.size != SHARED {
+        if from.size != SHARED {
             return Ok(BegunPair {
                 pair,
                 car_swept: false,
@@ -136,16 +133,13 @@ impl Sweeper {
         }
         let followed = self
             .places
-            .follow(&mut self.share, pair.object, pair.copy, near.from)?;
-        let Some((car, cdr)) = self.share.pair(followed.object) else {
-            unreachable!()
-        };
+            .follow(&mut self.share, pair.object, pair.copy, from)?;
         Ok(BegunPair {
             pair: NextPair {
                 object: followed.object,
                 copy: followed.copy,
-                car,
-                cdr,
+                car: followed.car,
+                cdr: followed.cdr,
             },
             car_swept: followed.car_swept,
         })
@@ -190,6 +184,7 @@ impl Sweeper {
             → IsHalfway u self.old begun
             → Runs (in_hand u begun.pair.object begun.pair.copy) (with_next self.new next)) }
         ensures words { IfOk result (λ next. IfSome next (IsNextPair self.new)) }
+        ensures from { IfOk result (λ next. IfSome next (λ pair. HasEntry directory.now pair.object near.new.from)) }
         ensures less { IfOk result (λ next. (u : SweeperView) → Ready (in_hand u begun.pair.object begun.pair.copy)
             → IsHalfway u self.old begun
             → left_of (with_next self.new next) < left_of (in_hand u begun.pair.object begun.pair.copy)) }
@@ -215,7 +210,8 @@ impl Sweeper {
         Ok(next)
     }
 
-    /// Sweeps a pair that was forwarded, and each further one to which its cdr leads and which is copied now.
+    /// Sweeps a pair that was forwarded, and each further one to which its cdr leads and which is copied now. Its
+    /// from-segment was looked at last, as that of each further one was when its place was asked for.
     pub(crate) fn sweep_list(
         &mut self,
         first: NextPair,
@@ -226,6 +222,7 @@ impl Sweeper {
         requires near { IsNear directory.now near.old }
         requires ready { Ready (in_hand self.old first.object first.copy) }
         requires words { IsNextPair self.old first }
+        requires from { HasEntry directory.now first.object near.old.from }
         ensures runs { OnOk result (Runs (in_hand self.old first.object first.copy) self.new) }
         ensures inbox { OnOk result (self.new.inbox ≡ self.old.inbox) }
         ensures less { OnOk result (left_of self.new < left_of (in_hand self.old first.object first.copy)) }
@@ -233,7 +230,7 @@ impl Sweeper {
     {
         let mut next = Some(first);
         while let Some(pair) = next {
-            let begun = self.follow(pair, near, directory)?;
+            let begun = self.follow(pair, near.from)?;
             next = self.sweep_pair(begun, near, directory)?;
         }
         Ok(())

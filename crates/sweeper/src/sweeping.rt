@@ -92,6 +92,9 @@ impl Sweeper {
         };
         let (object, copy) = unswept;
         if let Some((car, cdr)) = self.share.pair(object) {
+            let Some(_) = directory.find_near(near, object) else {
+                unreachable!()
+            };
             let first = NextPair {
                 object,
                 copy,

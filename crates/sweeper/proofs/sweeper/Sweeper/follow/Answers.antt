@@ -1,21 +1,16 @@
-use Rattle.std.proofs.Common.{IsSome, refl, sym, subst, ◌∙◌}
+use Rattle.std.proofs.Common.{refl}
 use Rattle.sweeper.specs.Sweepers.{SweeperView}
-use Rattle.sweeper.proofs.FollowedEnds.{HasCome, comes_nowhere, not_other, pair_aside, shown_anyhow, shown_come, shown_copy, shown_pair, shown_thread}
+use Rattle.sweeper.proofs.FollowedEnds.{HasCome, comes_nowhere, shown_anyhow, shown_come, shown_copy, shown_pair, shown_thread}
 use Rattle.sweeper.proofs.sweeper.Sweeper.follow.Goals as goal
 use Rattle.sweeper.proofs.sweeper.Sweeper.follow.Goals.{In_ok-followed}
-
-pub unreachable-requires : goal.unreachable-requires
-unreachable-requires c =
-    pair_aside c.args.self.now c.args.pair c.requires.ready c.requires.words c.args.directory.now c.requires.same
-    (sym c.find_near.ensures.value ∙ c.in_default.is)
 
 -- ---- none is followed
 
 pub returns-then-leads_away-clause-comes : goal.returns-then-leads_away-clause-comes
 returns-then-leads_away-clause-comes c = comes_nowhere c.args.self.now c.args.pair c.requires.words
 
-pub returns-then-near-ne-SHARED-clause-comes : goal.returns-then-near-ne-SHARED-clause-comes
-returns-then-near-ne-SHARED-clause-comes c = comes_nowhere c.args.self.now c.args.pair c.requires.words
+pub returns-then-from-ne-SHARED-clause-comes : goal.returns-then-from-ne-SHARED-clause-comes
+returns-then-from-ne-SHARED-clause-comes c = comes_nowhere c.args.self.now c.args.pair c.requires.words
 
 -- ---- pairs are followed
 
@@ -34,8 +29,8 @@ follow-requires-clause-thread c =
 -- memory was refused
 pub invariant_of-self : goal.invariant_of-self
 invariant_of-self c =
-    shown_anyhow _ c.args.self.now c.self.view_is c.args.pair c.requires.ready c.requires.words c.args.directory.now
-    c.find_near.new.near.from c.requires.same c.in-Some.ensures.from c.follow.new.share c.follow.new.self
+    shown_anyhow _ c.args.self.now c.self.view_is c.args.pair c.requires.ready c.requires.words
+    c.args.self.now.places.directory c.args.from refl c.requires.from c.follow.new.share c.follow.new.self
     c.in_err-followed.ensures.anyhow
 
 -- the sweeper where it has come to a pair
@@ -50,29 +45,21 @@ after c = record {
   ran_out = c.self.inside.ran_out;
 }
 
-come : (c : In_ok-followed) → HasCome c.args.self.now (after c) c.args.directory.now c.args.pair
+come : (c : In_ok-followed) → HasCome c.args.self.now (after c) c.args.self.now.places.directory c.args.pair
     c.in_ok-followed.followed.object c.in_ok-followed.followed.copy c.in_ok-followed.followed.car_swept
 come c =
-    shown_come _ c.args.self.now c.self.view_is c.args.pair c.requires.ready c.requires.words c.args.directory.now
-    c.find_near.new.near.from c.requires.same c.in-Some.ensures.from c.follow.new.share c.follow.new.self
+    shown_come _ c.args.self.now c.self.view_is c.args.pair c.requires.ready c.requires.words
+    c.args.self.now.places.directory c.args.from refl c.requires.from c.follow.new.share c.follow.new.self
     c.in_ok-followed.followed.object c.in_ok-followed.followed.copy c.in_ok-followed.followed.car_swept
     c.in_ok-followed.ensures.trail
-
-pub pair-requires : goal.pair-requires
-pair-requires c = subst IsSome (sym (come (goal.at.pair-requires c).In_ok-followed).is_pair.1) refl
-
-pub unreachable-requires-in_default-pair : goal.unreachable-requires-in_default-pair
-unreachable-requires-in_default-pair c =
-    let end = (come (goal.at.unreachable-requires-in_default-pair c).In_ok-followed).is_pair in
-    not_other _ end.0 end.1 end.2 c.in_default-pair.ensures.none
 
 pub invariant_of-self-2 : goal.invariant_of-self-2
 invariant_of-self-2 c = (come (goal.at.invariant_of-self-2 c).In_ok-followed).joined
 
 pub returns-clause-comes : goal.returns-clause-comes
 returns-clause-comes c =
-    (come (goal.at.returns-clause-comes c).In_ok-followed).comes c.in-Some-pair.car c.in-Some-pair.cdr
-    c.in-Some-pair.ensures.some
+    (come (goal.at.returns-clause-comes c).In_ok-followed).comes c.in_ok-followed.followed.car c.in_ok-followed.followed.cdr
+    c.in_ok-followed.ensures.words
 
 pub returns-clause-directory : goal.returns-clause-directory
 returns-clause-directory c = (come (goal.at.returns-clause-directory c).In_ok-followed).directory

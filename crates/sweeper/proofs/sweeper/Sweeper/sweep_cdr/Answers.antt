@@ -1,4 +1,5 @@
 use Rattle.std.proofs.Common.{refl, subst}
+use Rattle.sweep_share.specs.Shares.{IsPairOf}
 use Rattle.sweeper.specs.Sweepers.{CanKeep, FieldDone, IsKeptNow, in_hand}
 use Rattle.sweeper.proofs.Fielding.{goes_to_target, own_done}
 use Rattle.sweeper.proofs.InHand.{puts_in_hand}
@@ -8,6 +9,11 @@ pub returns-in_default-clause-done : goal.returns-in_default-clause-done
 returns-in_default-clause-done c =
     subst (FieldDone c.args.self.now c.sweep_field.new.self c.args.pair.object c.args.pair.copy) c.requires.index
     c.in_ok-sweep_field.ensures
+
+pub copy_taken-requires-clause-pair : goal.copy_taken-requires-clause-pair
+copy_taken-requires-clause-pair c =
+    let may : CanKeep c.args.self.now c.args.asked.target = c.requires.own c.in-Some.ensures.own in
+    (may.start, may.here, (subst (λ o. IsPairOf o c.in-Some.car c.in-Some.cdr) may.here c.in-Some.ensures.pair).0)
 
 pub returns-clause-done : goal.returns-clause-done
 returns-clause-done c =

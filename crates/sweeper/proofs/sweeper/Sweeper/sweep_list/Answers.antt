@@ -1,6 +1,8 @@
-use Rattle.std.proofs.Common.{◌<◌, ◌≤◌, Option, None, Some, IfNone, refl, sym, subst, ◌∙◌, arith}
+use Rattle.std.proofs.Common.{◌<◌, ◌≤◌, Option, None, Some, IfNone, IfSome, refl, sym, subst, ◌∙◌, arith}
+use Rattle.directory.specs.Directories.{DirectoryView}
 use Rattle.sweeper.specs.declared.lists.NextPair.{NextPair}
 use Rattle.sweeper.specs.Sweepers.{SweeperView, in_hand, left_of, with_next}
+use Rattle.sweeper.specs.Looked.{HasEntry}
 use Rattle.sweeper.specs.Ready.{Ready, Runs}
 use Rattle.sweeper.proofs.AnswerSteps.{ready_after}
 use Rattle.sweeper.proofs.WorldMail.{runs_none, runs_on}
@@ -11,6 +13,7 @@ loop-next-init c = record {
   runs = runs_none (in_hand c.args.self.now c.args.first.object c.args.first.copy);
   words = c.requires.words;
   near = c.requires.near;
+  from = c.requires.from;
   same = c.requires.same;
   inbox = refl;
   most = omega arith;
@@ -22,6 +25,12 @@ follow-requires-clause-ready c =
     subst (λ n. Ready (with_next c.loop-next.self n)) c.in-Some.is
     (ready_after (in_hand c.args.self.now c.args.first.object c.args.first.copy)
     (with_next c.loop-next.self c.loop-next.next) c.requires.ready c.loop-next.invariant.runs)
+
+pub follow-requires-clause-from : goal.follow-requires-clause-from
+follow-requires-clause-from c =
+    subst (λ (d : DirectoryView). HasEntry d c.in-Some.pair.object c.loop-next.near.from) (sym c.loop-next.invariant.same)
+    (subst (λ o. IfSome o (λ (p : NextPair). HasEntry c.args.directory.now p.object c.loop-next.near.from)) c.in-Some.is
+    c.loop-next.invariant.from)
 
 pub sweep_pair-requires-clause-begun : goal.sweep_pair-requires-clause-begun
 sweep_pair-requires-clause-begun c =
@@ -60,6 +69,7 @@ loop-next-preserved c =
           (runs_on here there last comes.runs (c.in_ok-next.ensures.runs comes.before ready comes.halfway));
       words = c.in_ok-next.ensures.words;
       near = c.in_ok-next.ensures.near;
+      from = c.in_ok-next.ensures.from;
       same = c.in_ok-next.ensures.directory;
       inbox = c.in_ok-next.ensures.inbox ∙ c.in_ok-begun.ensures.inbox ∙ c.loop-next.invariant.inbox;
       most = omega (arith, less_first);

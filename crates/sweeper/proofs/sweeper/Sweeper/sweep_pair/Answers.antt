@@ -1,6 +1,9 @@
-use Rattle.std.proofs.Common.{sym, ap, ◌∙◌}
+use Rattle.std.proofs.Common.{◌≡◌, ℕ, Option, None, Some, IfSome, sym, ap, subst, ◌∙◌}
 use Rattle.territory.specs.Finishing.{target_of}
+use Rattle.directory.specs.declared.table.FromSegment.{FromSegment}
 use Rattle.directory.specs.Directories.{DirectoryView, found_at}
+use Rattle.sweeper.specs.declared.lists.NextPair.{NextPair}
+use Rattle.sweeper.specs.Looked.{HasEntry}
 use Rattle.sweeper.proofs.FieldWords.{lies_aside, lies_elsewhere, refers_not}
 use Rattle.sweeper.proofs.HalfPairs.{both_directory, both_inbox, both_less, both_run, both_words, car_directory, car_less, cdr_asks, cdr_copy, cdr_keeps, plain_runs}
 use Rattle.sweeper.proofs.sweeper.Sweeper.sweep_pair.Goals as goal
@@ -103,3 +106,14 @@ returns-clause-inbox c =
     both_inbox c.args.self.now c.args.begun h.before h.ready h.halfway c.args.directory.now c.requires.same
     c.sweep_car.new.self (c.in_ok-sweep_car.ensures.done h.before h.halfway)
     c.sweep_cdr.new.self c.in_ok-next.next c.in_ok-next.ensures.done
+
+-- the from-segment in which the cdr's object lies is that of the pair that is swept next
+next_entry : (d : DirectoryView) (from : FromSegment) (x : ℕ) (o : Option NextPair) → IfSome o (λ (p : NextPair). p.object ≡ x)
+    → HasEntry d x from → IfSome o (λ (p : NextPair). HasEntry d p.object from)
+next_entry d from x None h e = tt
+next_entry d from x (Some p) h e = subst (λ v. HasEntry d v from) (sym h) e
+
+pub returns-clause-from : goal.returns-clause-from
+returns-clause-from c =
+    next_entry c.args.directory.now c.find_near.new.near.from c.in-Some.target c.in_ok-next.next c.in_ok-next.ensures.object
+    c.in-Some-find_near.ensures.from
