@@ -158,7 +158,7 @@ impl Segment {
     pub fn has_room_for_two(&self) -> bool
         ensures { IsTrue result ↔ HasRoom self.now 2 }
     {
-        self.top < 2 * self.births.len()
+        2 * self.births.len() > self.top
     }
 
     /// Where the next object would start.

@@ -116,6 +116,7 @@ reached_between between from to places new_places k q index word b start room co
       from_space = b.from_space;
       to_space = b.to_space;
       from_size = b.from_size;
+      from_starts = b.from_starts;
       to_size = omega (arith, b.to_size);
       to_used = b.to_used;
       each_two = same ∙ b.each_two;
@@ -134,26 +135,25 @@ pub record IsUnderway (between : Between) (from : Segment) (old : Reel) (k q : �
   pub count : ℕ
   pub followed : AreFollowed (IsCarSweptIn between from) (IsCdrSweptIn between from) count old k q new tip.start tip.offset
   pub between_is : IsBetween between from new.to new.places
-  pub tip_is : IsTip from new.to tip.start tip.offset tip.count
+  pub tip_is : IsTip from new.to tip.start tip.offset tip.car tip.cdr
   pub spare : HasSpare new.to (length new.waiting) capacity
-  pub counted : length new.own ≡ length old.own + tip.count
+  pub counted : 2 * length new.own + old.to.top ≡ 2 * length old.own + new.to.top
+  pub grows : old.to.top ≤ new.to.top
 
-pub underway_next : (between : Between) (from : Segment) (old : Reel) (k q : ℕ) (now mid new : Reel) (tip swept next : Tip) (capacity new_capacity : ℕ) → IsUnderway between from old k q now tip capacity
-    → IsCarSweptIn between from now mid tip.start tip.offset → swept.start ≡ tip.start → swept.offset ≡ tip.offset → length mid.own + tip.count ≡ length now.own + swept.count
-    → IsCdrSweptIn between from mid new swept.start swept.offset next.start next.offset → length new.own + swept.count ≡ length mid.own + next.count
-    → IsBetween between from new.to new.places → IsTip from new.to next.start next.offset next.count → HasSpare new.to (length new.waiting) new_capacity
+pub underway_next : (between : Between) (from : Segment) (old : Reel) (k q : ℕ) (now mid new : Reel) (tip next : Tip) (capacity new_capacity : ℕ) → IsUnderway between from old k q now tip capacity
+    → IsCarSweptIn between from now mid tip.start tip.offset → 2 * length mid.own + now.to.top ≡ 2 * length now.own + mid.to.top → now.to.top ≤ mid.to.top
+    → IsCdrSweptIn between from mid new tip.start tip.offset next.start next.offset → 2 * length new.own + mid.to.top ≡ 2 * length mid.own + new.to.top → mid.to.top ≤ new.to.top
+    → IsBetween between from new.to new.places → IsTip from new.to next.start next.offset next.car next.cdr → HasSpare new.to (length new.waiting) new_capacity
     → IsUnderway between from old k q new next new_capacity
-underway_next between from old k q now mid new tip swept next capacity new_capacity u car s o more cdr more' b t spare =
-    let cdr' : IsCdrSweptIn between from mid new tip.start tip.offset next.start next.offset =
-    subst (λ v. IsCdrSweptIn between from mid new v tip.offset next.start next.offset) s (subst (λ v. IsCdrSweptIn between from mid new swept.start v next.start next.offset) o cdr) in
-    record {
-      count = suc u.count;
-      followed = (now, tip.start, tip.offset, mid, u.followed, car, cdr');
-      between_is = b;
-      tip_is = t;
-      spare = spare;
-      counted = omega (arith, u.counted);
-    }
+underway_next between from old k q now mid new tip next capacity new_capacity u car more grows cdr more' grows' b t spare = record {
+  count = suc u.count;
+  followed = (now, tip.start, tip.offset, mid, u.followed, car, cdr);
+  between_is = b;
+  tip_is = t;
+  spare = spare;
+  counted = omega (arith, u.counted, more, more');
+  grows = omega (arith, u.grows, grows, grows');
+}
 
 -- ---- the list of segments is cut in two between the two
 

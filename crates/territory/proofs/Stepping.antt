@@ -271,6 +271,7 @@ step targets between p q index j r word s x =
           from_space = ap (λ (v : Segment). v.space) other ∙ s.can.from_space;
           to_space = ap (λ (v : Segment). v.space) seen ∙ s.can.to_space;
           from_size = ap (λ (v : Segment). length v.words) other ∙ s.can.from_size;
+          from_starts = ap (λ (v : Segment). length v.births) other ∙ s.can.from_starts;
           to_size = ap (λ (v : Segment). length v.words) seen ∙ (long ∙ s.can.to_size);
           is_open = ap (λ (v : Segment). slice_get p.areas v.generation) seen ∙ s.can.is_open;
         };

@@ -75,16 +75,18 @@ pub record IsBetween (between : Between) (from to : Segment) (places : List ℕ)
   pub from_space : from.space ≡ space.Pair
   pub to_space : to.space ≡ space.Pair
   pub from_size : length from.words ≡ 512
+  pub from_starts : length from.births ≡ 256
   pub to_size : length to.words ≤ 512
   pub to_used : is_free to.role ≡ false
   pub each_two : length places ≡ 256
 
--- start k was copied to offset q, and no more objects than there is room for
-pub record IsTip (from to : Segment) (k q count : ℕ) : Type 0 where
+-- start k, whose words are car and cdr, was copied to offset q
+pub record IsTip (from to : Segment) (k q car cdr : ℕ) : Type 0 where
   pub start : IsStart from k
   pub copy : IsStart to (q / 2)
   pub even : q % 2 ≡ 0
-  pub fits : 2 * count ≤ to.top
+  pub first : car ≡ slice_index from.words (2 * k)
+  pub second : cdr ≡ slice_index from.words (2 * k + 1)
 
 -- so much may wait to be swept that each two words of room may have an object that does
 abbrev pub HasSpare : Segment → ℕ → ℕ → Type 0
@@ -98,6 +100,7 @@ pub record CanFollow (p : PoolView) (between : Between) : Type 0 where
   pub from_space : (numbered p.segments between.from).space ≡ space.Pair
   pub to_space : (numbered p.segments between.to).space ≡ space.Pair
   pub from_size : length (numbered p.segments between.from).words ≡ 512
+  pub from_starts : length (numbered p.segments between.from).births ≡ 256
   pub to_size : length (numbered p.segments between.to).words ≡ 512
   pub is_open : slice_get p.areas (numbered p.segments between.to).generation ≡ Some (Some between.to)
 

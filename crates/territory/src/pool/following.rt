@@ -1,16 +1,16 @@
 //! Pairs of one segment that are copied to another in one go, each led to by the cdr of the one before it.
 
-ghost use Rattle.std.specs.Prelude.{◌≡◌, ◌≢◌, ℕ, [], ◌∷◌, ◌++◌, ◌+◌, ◌*◌, ◌/◌, ◌%◌, ◌<◌, ◌≤◌, Some, IfSome, IfNone, IsTrue, length, slice_index, slice_set, vec_capacity};
+ghost use Rattle.std.specs.Prelude.{◌≡◌, ◌≢◌, ℕ, false, [], ◌∷◌, ◌++◌, ◌+◌, ◌-◌, ◌*◌, ◌/◌, ◌%◌, ◌<◌, ◌≤◌, Some, IfSome, IfNone, IsFalse, IsTrue, length, slice_index, slice_set, vec_capacity};
 ghost use Rattle.gc_words.specs.declared.value.Value.TheVariants as value;
 ghost use Rattle.gc_words.specs.declared.address.TheConstants.{THREADS};
 ghost use Rattle.gc_words.specs.Layout.{HasParts, address_of};
 ghost use Rattle.gc_words.specs.Word.{value_of};
-ghost use Rattle.segment.specs.Segments.{HasRoom, IsSound, IsStart};
+ghost use Rattle.segment.specs.Segments.{HasRoom, IsSound, IsStart, is_free};
 ghost use Rattle.territory.specs.Pools.{IsSettled, numbered};
 ghost use Rattle.territory.specs.FollowedSegments.{CanFollow, HasSpare, IsBetween, IsCarSweptIn, IsCdrSweptIn, IsReachedIn, IsTip, IsTrailIn, copy_at, object_at, reel, with_segment};
 
 use super::Pool;
-use super::room::SHARED_WORDS;
+use super::room::{SHARED_STARTS, SHARED_WORDS};
 use crate::following::CopyLog;
 use gc_words::{Address, Value, decode, encode};
 use segment::{Segment, Space};
@@ -46,19 +46,21 @@ impl Between {
     }
 }
 
-/// The pair that was copied last: its number of start, the offset of its copy, and how many objects were copied.
+/// The pair that was copied last: its number of start, the offset of its copy, and its words, which are read once.
 #[derive(Clone, Copy)]
 pub struct Tip {
     pub start: usize,
     pub offset: usize,
-    pub count: u32,
+    pub car: u64,
+    pub cdr: u64,
 }
 
-/// Where following ended: at this pair, whose car was swept or was not.
+/// Where following ended: at this pair, whose car was swept or was not; and how many objects were copied.
 #[derive(Clone, Copy)]
 pub struct End {
     pub tip: Tip,
     pub car_swept: bool,
+    pub count: u32,
 }
 
 /// The object to which a word refers, if it refers to one.
@@ -113,16 +115,16 @@ fn start_of(word: u64, between: Between) -> Option<usize>
 /// The same, where something starts there that has no place.
 #[inline(always)]
 fn unplaced(from: &Segment, between: Between, word: u64, places: &[u64]) -> Option<usize>
-    requires sound { IsSound from.now }
     requires parts { HasParts between.thread between.from 0 }
-    requires size { length from.now.words ≡ 512 }
+    requires used { is_free from.now.role ≡ false }
+    requires starts { length from.now.births ≡ 256 }
     requires places { length places.now ≡ 256 }
     ensures object { IfSome result (λ k. value_of word ≡ Some (value.Object (object_at between k))) }
     ensures start { IfSome result (IsStart from.now) }
     ensures unplaced { IfSome result (λ k. slice_index places.now k ≡ 0) }
 {
     let k = start_of(word, between)?;
-    if from.is_start(2 * k) && places[k] == NO_PLACE {
+    if from.starts_at(k) && places[k] == NO_PLACE {
         Some(k)
     } else {
         None
@@ -130,7 +132,7 @@ fn unplaced(from: &Segment, between: Between, word: u64, places: &[u64]) -> Opti
 }
 
 /// Copies start `k` to the top of the segment `to`, and puts its place into word `index` of the copy of `tip`. Gives the
-/// offset of the new copy.
+/// pair with the offset of its copy.
 #[inline(always)]
 fn reach(
     from: &Segment,
@@ -141,34 +143,40 @@ fn reach(
     index: usize,
     places: &mut [u64],
     log: &mut CopyLog,
-) -> usize
+) -> Tip
     requires between { IsBetween between from.now to.old places.old }
-    requires tip { IsTip from.now to.old tip.start tip.offset tip.count }
+    requires tip { IsTip from.now to.old tip.start tip.offset tip.car tip.cdr }
     requires index { index < 2 }
     requires start { IsStart from.now k }
     requires unplaced { slice_index places.old k ≡ 0 }
     requires refers { value_of (slice_index from.now.words (2 * tip.start + index)) ≡ Some (value.Object (object_at between k)) }
     requires room { HasRoom to.old 2 }
+    ensures start { result.start ≡ k }
     ensures reached { IsReachedIn between from.now (reel to.old places.old log.old.own.items log.old.waiting.items)
-        (reel to.new places.new log.new.own.items log.new.waiting.items) tip.start tip.offset index k result }
+        (reel to.new places.new log.new.own.items log.new.waiting.items) tip.start tip.offset index k result.offset }
+    ensures tip { IsTip from.now to.new result.start result.offset result.car result.cdr }
     ensures between { IsBetween between from.now to.new places.new }
     ensures waiting { log.new.waiting ≡ log.old.waiting }
     ensures top { to.new.top ≡ to.old.top + 2 }
     ensures words { length to.new.words ≡ length to.old.words }
-    ensures copy { IsStart to.new (result / 2) }
     ensures copies { (j : ℕ) → IsStart to.old j → IsStart to.new j }
 {
-    let (first, second) = from.two_words(k);
-    let offset = to.grow_two(first, second, from.birth(k));
+    let (car, cdr) = from.two_words(k);
+    let offset = to.grow_two(car, cdr, from.birth(k));
     let place = between.copy(offset);
     let word = encode(Value::Object(place));
     to.put_in_pair(tip.offset / 2, index, word);
     places[k] = word;
     log.own = log.own.and(&between.object(k), &place);
-    offset
+    Tip {
+        start: k,
+        offset,
+        car,
+        cdr,
+    }
 }
 
-/// Sweeps the car of `tip`, where it refers to no object, or to a pair that can be copied now.
+/// Sweeps the car of `tip`, where it refers to no object, or to a pair that can be copied now. Gives whether it did.
 #[inline(always)]
 fn sweep_car(
     from: &Segment,
@@ -177,42 +185,33 @@ fn sweep_car(
     tip: Tip,
     places: &mut [u64],
     log: &mut CopyLog,
-) -> Option<Tip>
+) -> bool
     requires between { IsBetween between from.now to.old places.old }
-    requires tip { IsTip from.now to.old tip.start tip.offset tip.count }
+    requires tip { IsTip from.now to.old tip.start tip.offset tip.car tip.cdr }
     requires spare { HasSpare to.old (length log.old.waiting.items) (vec_capacity log.old.waiting) }
-    ensures swept { IfSome result (λ t. IsCarSweptIn between from.now
+    ensures swept { IsTrue result → IsCarSweptIn between from.now
         (reel to.old places.old log.old.own.items log.old.waiting.items)
-        (reel to.new places.new log.new.own.items log.new.waiting.items) tip.start tip.offset) }
-    ensures same { IfNone result (reel to.new places.new log.new.own.items log.new.waiting.items
-        ≡ reel to.old places.old log.old.own.items log.old.waiting.items) }
-    ensures tip { IfSome result (λ t. IsTip from.now to.new t.start t.offset t.count) }
-    ensures start { IfSome result (λ t. t.start ≡ tip.start) }
-    ensures offset { IfSome result (λ t. t.offset ≡ tip.offset) }
-    ensures count { IfSome result (λ t. length log.new.own.items + tip.count ≡ length log.old.own.items + t.count) }
+        (reel to.new places.new log.new.own.items log.new.waiting.items) tip.start tip.offset }
+    ensures same { IsFalse result → reel to.new places.new log.new.own.items log.new.waiting.items
+        ≡ reel to.old places.old log.old.own.items log.old.waiting.items }
+    ensures tip { IsTip from.now to.new tip.start tip.offset tip.car tip.cdr }
+    ensures count { 2 * length log.new.own.items + to.old.top ≡ 2 * length log.old.own.items + to.new.top }
+    ensures grows { to.old.top ≤ to.new.top }
     ensures between { IsBetween between from.now to.new places.new }
     ensures spare { HasSpare to.new (length log.new.waiting.items) (vec_capacity log.new.waiting) }
     ensures no_more { length log.new.waiting.items + to.old.top ≤ length log.old.waiting.items + to.new.top }
     ensures words { length to.new.words ≡ length to.old.words }
 {
-    let (car, _) = from.two_words(tip.start);
-    let Some(k) = unplaced(from, between, car, places) else {
-        return match object_in(car) {
-            Some(_) => None,
-            None => Some(tip),
-        };
+    let Some(k) = unplaced(from, between, tip.car, places) else {
+        return object_in(tip.car).is_none();
     };
-    if !to.has_room(2) {
-        return None;
+    if !to.has_room_for_two() {
+        return false;
     }
-    let offset = reach(from, to, between, k, tip, 0, places, log);
+    let next = reach(from, to, between, k, tip, 0, places, log);
     log.waiting
-        .push_reserved((between.object(k), between.copy(offset)));
-    Some(Tip {
-        start: tip.start,
-        offset: tip.offset,
-        count: tip.count + 1,
-    })
+        .push_reserved((between.object(k), between.copy(next.offset)));
+    true
 }
 
 /// Takes the pair that waits last, where it and its copy lie in the two segments. Gives its number of start, and the offset
@@ -256,45 +255,53 @@ fn sweep_cdr(
     log: &mut CopyLog,
 ) -> Option<Tip>
     requires between { IsBetween between from.now to.old places.old }
-    requires tip { IsTip from.now to.old tip.start tip.offset tip.count }
+    requires tip { IsTip from.now to.old tip.start tip.offset tip.car tip.cdr }
     requires spare { HasSpare to.old (length log.old.waiting.items) (vec_capacity log.old.waiting) }
     ensures swept { IfSome result (λ t. IsCdrSweptIn between from.now
         (reel to.old places.old log.old.own.items log.old.waiting.items)
         (reel to.new places.new log.new.own.items log.new.waiting.items) tip.start tip.offset t.start t.offset) }
     ensures same { IfNone result (reel to.new places.new log.new.own.items log.new.waiting.items
         ≡ reel to.old places.old log.old.own.items log.old.waiting.items) }
-    ensures tip { IfSome result (λ t. IsTip from.now to.new t.start t.offset t.count) }
-    ensures count { IfSome result (λ t. length log.new.own.items + tip.count ≡ length log.old.own.items + t.count) }
+    ensures tip { IfSome result (λ t. IsTip from.now to.new t.start t.offset t.car t.cdr) }
+    ensures count { 2 * length log.new.own.items + to.old.top ≡ 2 * length log.old.own.items + to.new.top }
+    ensures grows { to.old.top ≤ to.new.top }
     ensures between { IsBetween between from.now to.new places.new }
     ensures spare { HasSpare to.new (length log.new.waiting.items) (vec_capacity log.new.waiting) }
     ensures less { IfSome result (λ t.
         length log.new.waiting.items + to.old.top < length log.old.waiting.items + to.new.top) }
     ensures words { length to.new.words ≡ length to.old.words }
 {
-    let (_, cdr) = from.two_words(tip.start);
-    let Some(k) = unplaced(from, between, cdr, places) else {
-        if object_in(cdr).is_some() {
+    let Some(k) = unplaced(from, between, tip.cdr, places) else {
+        if object_in(tip.cdr).is_some() {
             return None;
         }
         let (start, offset) = take_waiting(from, to, between, log)?;
+        let (car, cdr) = from.two_words(start);
         return Some(Tip {
             start,
             offset,
-            count: tip.count,
+            car,
+            cdr,
         });
     };
-    if !to.has_room(2) {
+    if !to.has_room_for_two() {
         return None;
     }
-    let offset = reach(from, to, between, k, tip, 1, places, log);
-    Some(Tip {
-        start: k,
-        offset,
-        count: tip.count + 1,
-    })
+    Some(reach(from, to, between, k, tip, 1, places, log))
 }
 
-/// Follows pairs from `first` on, of which none is counted yet.
+/// How many pairs lie between two tops of a segment.
+#[inline(always)]
+fn pairs_between(before: usize, top: usize) -> u32
+    requires within { before ≤ top }
+    requires small { top ≤ 512 }
+    ensures { result ≡ (top - before) / 2 }
+{
+    (top - before) as u32 / 2
+}
+
+/// Follows pairs from `first` on.
+#[inline(always)]
 pub(super) fn follow_from(
     from: &Segment,
     to: &mut Segment,
@@ -304,23 +311,25 @@ pub(super) fn follow_from(
     log: &mut CopyLog,
 ) -> End
     requires between { IsBetween between from.now to.old places.old }
-    requires tip { IsTip from.now to.old first.start first.offset first.count }
-    requires none { first.count ≡ 0 }
+    requires tip { IsTip from.now to.old first.start first.offset first.car first.cdr }
     requires spare { HasSpare to.old (length log.old.waiting.items) (vec_capacity log.old.waiting) }
     ensures followed { IsTrailIn between from.now (reel to.old places.old log.old.own.items log.old.waiting.items)
         first.start first.offset (reel to.new places.new log.new.own.items log.new.waiting.items)
         result.tip.start result.tip.offset result.car_swept }
-    ensures count { length log.new.own.items ≡ length log.old.own.items + result.tip.count }
-    ensures few { result.tip.count ≤ 256 }
+    ensures tip { IsTip from.now to.new result.tip.start result.tip.offset result.tip.car result.tip.cdr }
+    ensures count { length log.new.own.items ≡ length log.old.own.items + result.count }
+    ensures few { result.count ≤ 256 }
 {
+    let before = to.top();
     let mut tip = first;
-    while let Some(swept) = sweep_car(from, to, between, tip, places, log) {
-        match sweep_cdr(from, to, between, swept, places, log) {
+    while sweep_car(from, to, between, tip, places, log) {
+        match sweep_cdr(from, to, between, tip, places, log) {
             Some(next) => tip = next,
             None => {
                 return End {
-                    tip: swept,
+                    tip,
                     car_swept: true,
+                    count: pairs_between(before, to.top()),
                 };
             }
         }
@@ -328,6 +337,7 @@ pub(super) fn follow_from(
     End {
         tip,
         car_swept: false,
+        count: pairs_between(before, to.top()),
     }
 }
 
@@ -343,16 +353,15 @@ fn follow_apart(
     requires from_within { between.from < length segments.old }
     requires to_within { between.to < length segments.old }
     requires between { IsBetween between (numbered segments.old between.from) (numbered segments.old between.to) places.old }
-    requires tip { IsTip (numbered segments.old between.from) (numbered segments.old between.to) first.start first.offset first.count }
-    requires none { first.count ≡ 0 }
+    requires tip { IsTip (numbered segments.old between.from) (numbered segments.old between.to) first.start first.offset first.car first.cdr }
     requires spare { HasSpare (numbered segments.old between.to) (length log.old.waiting.items) (vec_capacity log.old.waiting) }
     ensures followed { IsTrailIn between (numbered segments.old between.from)
         (reel (numbered segments.old between.to) places.old log.old.own.items log.old.waiting.items) first.start first.offset
         (reel (numbered segments.new between.to) places.new log.new.own.items log.new.waiting.items)
         result.tip.start result.tip.offset result.car_swept }
     ensures others { segments.new ≡ slice_set segments.old between.to (numbered segments.new between.to) }
-    ensures count { length log.new.own.items ≡ length log.old.own.items + result.tip.count }
-    ensures few { result.tip.count ≤ 256 }
+    ensures count { length log.new.own.items ≡ length log.old.own.items + result.count }
+    ensures few { result.count ≤ 256 }
 {
     if between.from < between.to {
         let (front, back) = segments.split_at_mut(between.to);
@@ -394,7 +403,7 @@ impl Pool {
             return false;
         };
         between.from != between.to
-            && from.words() == SHARED_WORDS
+            && from.possible_starts() == SHARED_STARTS
             && to.words() == SHARED_WORDS
             && self.areas[usize::from(to.generation())] == Some(between.to)
     }
@@ -422,13 +431,15 @@ impl Pool {
             (reel (numbered self.new.segments between.to) places.new log.new.own.items log.new.waiting.items)
             result.tip.start result.tip.offset result.car_swept }
         ensures others { self.new ≡ with_segment self.old between.to (numbered self.new.segments between.to) }
-        ensures count { length log.new.own.items ≡ length log.old.own.items + result.tip.count }
-        ensures few { result.tip.count ≤ 256 }
+        ensures count { length log.new.own.items ≡ length log.old.own.items + result.count }
+        ensures few { result.count ≤ 256 }
     {
+        let (car, cdr) = self.segments[between.from].two_words(k);
         let first = Tip {
             start: k,
             offset,
-            count: 0,
+            car,
+            cdr,
         };
         follow_apart(&mut self.segments, between, first, places, log)
     }

@@ -17,6 +17,9 @@ pub const GREATEST_SHARED: usize = 128;
 /// The words of a segment that objects share.
 pub(super) const SHARED_WORDS: usize = 512;
 
+/// How many objects can start in it.
+pub(super) const SHARED_STARTS: usize = 256;
+
 /// The generations 0 to 8.
 const GENERATIONS: usize = 9;
 

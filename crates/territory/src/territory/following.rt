@@ -147,7 +147,7 @@ impl Territory {
         let end = self
             .pool
             .follow(between, k, copy.offset() as usize, places, log);
-        log.count = before + u64::from(end.tip.count);
+        log.count = before + u64::from(end.count);
         Ok(Stop {
             object: between.object(end.tip.start),
             copy: between.copy(end.tip.offset),
