@@ -20,5 +20,6 @@ pub mod Swept
 pub mod Course
 pub mod DealtOut
 pub mod DealtRegisters
+pub mod BelowUsed
 pub mod Taking
 pub mod Closing

@@ -8,6 +8,7 @@ ghost use Rattle.heap_store.specs.Changes.{HaveSoundCards};
 ghost use Rattle.heap_store.specs.Parts.{seen_parts};
 ghost use Rattle.heap_store.specs.Stands.{Stands};
 ghost use Rattle.heap_store.specs.Calls.{IsLeft, IsValid, PerformsOnAnyLine};
+ghost use Rattle.heap_store.specs.Used.{HoldNoneFrom};
 ghost use Rattle.collect_model.specs.Worlds.{arguments_of};
 ghost use Rattle.collect_model.specs.Counts.{copied_by};
 ghost use Rattle.collector.specs.Collected.{AreCounted, KeepsFixed, arguments_in, counted_in, registrations_up_to, without_report};
@@ -24,21 +25,27 @@ use steps::Steps;
 use territory::Targets;
 use trace_types::{CollectArgs, Command, Fault};
 
-/// Collects the parts of a heap. They are valid before and after. Takes memory.
+/// Collects the parts of a heap. They are valid before and after, and the registers that hold objects lie below `used`.
+/// Takes memory.
 fn collect_parts<R: Threads + Sync, G: Gate, M: Ledger>(
     rt: &R,
     parts: Parts,
+    used: usize,
     targets: Targets,
     sweepers: u32,
     gate: &G,
     mail: &mut Steps<M>,
 ) -> Result<(Parts, Report), AllocError>
     requires valid { IsValid (seen_parts parts) }
+    requires within { used ≤ length parts.registers.items }
+    requires none { HoldNoneFrom parts.registers.items used }
     requires sweepers { (1 ≤ sweepers) × (sweepers ≤ 64) }
     requires allowed { IsTrue (are_allowed parts.version parts.generations (arguments_of targets)) }
     ensures stands { IfOk result (λ r. (s : State) → Stands (seen_parts parts) s
         → Stands (seen_parts r.0) (collect s (arguments_of targets))) }
     ensures valid { IfOk result (λ r. IsValid (seen_parts r.0)) }
+    ensures within { IfOk result (λ r. used ≤ length r.0.registers.items) }
+    ensures none { IfOk result (λ r. HoldNoneFrom r.0.registers.items used) }
     ensures last { IfOk result (λ r. r.0.last ≡ parts.last) }
     ensures count { IfOk result (λ r. length r.1.forwarded ≡ sweepers) }
     ensures copied { IfOk result (λ r. (s : State) (k : ℕ) → Stands (seen_parts parts) s → k < sweepers
@@ -58,7 +65,16 @@ fn collect_parts<R: Threads + Sync, G: Gate, M: Ledger>(
         version,
         last,
     } = parts;
-    let swept = sweep(rt, territories, registers, targets, sweepers, gate, mail)?;
+    let swept = sweep(
+        rt,
+        territories,
+        registers,
+        used,
+        targets,
+        sweepers,
+        gate,
+        mail,
+    )?;
     let parts = Parts {
         territories: swept.territories,
         registers: swept.registers,
@@ -121,18 +137,22 @@ pub fn collect<R: Threads + Sync, G: Gate, M: Ledger, L: Ledger>(
     if heap.failed() {
         return Err(HeapError::Failed);
     }
+    let used = heap.used_registers();
     let mut parts = heap.take_parts();
     let Some(number) = counted(args, parts.collects) else {
         return Err(HeapError::NoMemory);
     };
     let Some(targets) = targets_of(args, number, parts.version, parts.generations) else {
         heap.put_parts(parts);
+        heap.narrow_registers(used);
         return Err(HeapError::Fault(Fault::BadGeneration));
     };
     parts.collects = number;
-    let Ok((parts, report)) = collect_parts(rt, parts, targets, sweepers, gate, mail) else {
+    let Ok((parts, report)) = collect_parts(rt, parts, used, targets, sweepers, gate, mail) else {
         return Err(HeapError::NoMemory);
     };
     heap.put_parts(parts);
+    // A register that held no object is as it was, so the bound is still one.
+    heap.narrow_registers(used);
     Ok(report)
 }

@@ -1,5 +1,6 @@
 //! Territories and registers are dealt out to sweepers: those of number k go to the sweeper of k modulo their number. Of
-//! the registers only those are dealt out that hold objects, since a collection leaves the others as they are.
+//! the registers only those are dealt out that hold objects, since a collection leaves the others as they are. They are
+//! looked for below a bound that the heap knows.
 
 ghost use Rattle.std.specs.Prelude.{◌≡◌, ◌↔◌, ◌+◌, ◌<◌, ◌≤◌, [], ◌++◌, ◌∷◌, length, replicate, slice_get, IfNone, IfOk, IfSome, IsFalse, IsSome, OnOk};
 ghost use Rattle.sweep_model.specs.World.{object_in};
@@ -207,14 +208,14 @@ fn next_object(registers: &[Value], from: usize) -> Option<usize>
     None
 }
 
-/// Deals the registers that hold objects out to so many sweepers, in one pass over all of them. Takes memory.
+/// Deals the registers that hold objects out to so many sweepers, in one pass over these. Takes memory.
 pub(crate) fn deal_registers(
     alloc: Global,
     registers: &[Value],
     sweepers: u32,
 ) -> Result<Vec<OwnRegisters>, AllocError>
     requires sweepers { (1 ≤ sweepers) × (sweepers ≤ 64) }
-    requires all { length registers.now ≡ 4096 }
+    requires few { length registers.now ≤ 4096 }
     ensures { IfOk result (λ v. AreRegistersDealt sweepers registers.now v.items) }
 {
     let mut owns = no_registers(alloc, sweepers)?;

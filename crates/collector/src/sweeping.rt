@@ -2,6 +2,7 @@
 
 ghost use Rattle.std.specs.Prelude.{◌≡◌, ℕ, ◌+◌, ◌<◌, ◌≤◌, length, slice_index, IfOk};
 ghost use Rattle.directory.specs.Directories.{sweeper_count};
+ghost use Rattle.heap_store.specs.Used.{HoldNoneFrom};
 ghost use Rattle.sweep_share.specs.Shares.{AreShareOf};
 ghost use Rattle.sweeper.specs.Sweepers.{SweeperView};
 ghost use Rattle.sweep_rounds.specs.Turns.{sweeper_at};
@@ -43,21 +44,25 @@ fn begin_all(territories: &mut Vec<Territory>, targets: Targets)
     }
 }
 
-/// A sweeper for each share of the territories, with its registers. Takes memory.
+/// A sweeper for each share of the territories, with its registers. Those that hold objects lie below `used`. Takes
+/// memory.
 fn make_sweepers(
     alloc: Global,
     owns: Vec<OwnTerritories>,
     registers: &[Value],
+    used: usize,
     directory: &Directory,
 ) -> Result<Vec<Sweeper>, AllocError>
     requires count { length owns.items ≡ sweeper_count directory.now }
     requires shares { (k : ℕ) → k < length owns.items
         → AreShareOf k (sweeper_count directory.now) (own_at owns.items k) }
     requires registers { length registers.now ≡ 4096 }
+    requires within { used ≤ length registers.now }
+    requires none { HoldNoneFrom registers.now used }
     ensures { IfOk result (λ v. AreMade directory.now owns.items registers.now v.items) }
 {
     let count = directory.sweepers();
-    let mut dealt = deal_registers(alloc, registers, count)?;
+    let mut dealt = deal_registers(alloc, &registers[..used], count)?;
     let mut number = 0;
     let mut sweepers = Vec::new(alloc);
     for own in owns {
@@ -82,17 +87,21 @@ fn copied(alloc: Global, sweepers: &[Sweeper]) -> Result<Vec<u64>, AllocError>
     Ok(counts)
 }
 
-/// Collects territories and registers: the generations up to `cg` of the targets, by so many sweepers. Takes memory.
+/// Collects territories and registers: the generations up to `cg` of the targets, by so many sweepers. The
+/// registers that hold objects lie below `used`. Takes memory.
 pub(crate) fn sweep<R: Threads + Sync, G: Gate, M: Ledger>(
     rt: &R,
     territories: Vec<Territory>,
     registers: Vec<Value>,
+    used: usize,
     targets: Targets,
     sweepers: u32,
     gate: &G,
     mail: &mut Steps<M>,
 ) -> Result<Swept, AllocError>
     requires collectable { AreCollectable territories.items registers.items targets }
+    requires within { used ≤ length registers.items }
+    requires none { HoldNoneFrom registers.items used }
     requires sweepers { (1 ≤ sweepers) × (sweepers ≤ 64) }
     ensures swept { IfOk result (λ r. IsSwept territories.items registers.items targets sweepers
         r.territories.items r.registers.items r.report.forwarded) }
@@ -105,7 +114,7 @@ pub(crate) fn sweep<R: Threads + Sync, G: Gate, M: Ledger>(
     begin_all(&mut territories, targets);
     let directory = Directory::new(alloc, &territories, targets, sweepers)?;
     let owns = deal_territories(alloc, territories, sweepers)?;
-    let mut all = make_sweepers(alloc, owns, &registers, &directory)?;
+    let mut all = make_sweepers(alloc, owns, &registers, used, &directory)?;
     let done = run_to_idle(rt, &mut all, &directory, gate, mail)?;
     let forwarded = Counts::new(copied(alloc, &all)?);
     let owns = end_all(alloc, all, &mut registers)?;

@@ -13,6 +13,7 @@ use Rattle.sweeper.specs.Starting.{IsBeginning}
 use Rattle.sweep_rounds.specs.Turns.{sweeper_at}
 use Rattle.collector.specs.Begun.{IsMade}
 use Rattle.collector.specs.Dealt.{AreRegistersDealt, AreRegistersDealtTo, NumberedValues, own_at, registers_at}
+use Rattle.collector.proofs.BelowUsed.{registers_below}
 use Rattle.collector.proofs.sweeping.make_sweepers.Goals as goal
 
 made_more : (d : DirectoryView) (registers : List Value) (owns : List (List TerritoryView)) (own : List TerritoryView)
@@ -68,7 +69,9 @@ pub loop-own-init : goal.loop-own-init
 loop-own-init c =
     let count : c.sweepers-count.result ≡ sweeper_count c.args.directory.now = c.sweepers-count.ensures.value in
     let dealt : AreRegistersDealt (sweeper_count c.args.directory.now) c.args.registers.now c.in_ok-dealt.dealt.items =
-    subst (λ n. AreRegistersDealt n c.args.registers.now c.in_ok-dealt.dealt.items) count c.in_ok-dealt.ensures in
+    subst (λ n. AreRegistersDealt n c.args.registers.now c.in_ok-dealt.dealt.items) count
+    (registers_below c.sweepers-count.result c.args.registers.now c.args.used c.in_ok-dealt.dealt.items
+    c.requires.within c.requires.none c.in_ok-dealt.ensures) in
     record {
       at = refl;
       count = ap length c.new-sweepers.ensures.items;

@@ -1,5 +1,7 @@
 -- From call to call of a collection.
-use Rattle.std.proofs.Common.{◌≡◌, ℕ, ◌<◌, List, length, slice_index, sym, ◌∙◌, ap, subst}
+use Rattle.std.proofs.Common.{◌≡◌, ℕ, ◌<◌, ◌≤◌, List, length, slice_index, sym, ◌∙◌, ap, subst}
+use Rattle.gc_words.specs.declared.value.Value.{Value}
+use Rattle.heap_store.specs.Used.{HoldNoneFrom}
 use Rattle.directory.specs.Directories.{AreOfThreads, HaveBegun as HaveTargets}
 use Rattle.sweeper.specs.Sweepers.{SweeperView}
 use Rattle.sweep_rounds.specs.Turns.{sweeper_at}
@@ -24,6 +26,14 @@ pub make_sweepers-requires-clause-shares : goal.make_sweepers-requires-clause-sh
 make_sweepers-requires-clause-shares g c =
     let is = begun_is c.requires.collectable c.begin_all.ensures c.requires.sweepers in
     shares_dealt is c.in_ok-directory.ensures.sweepers c.in_ok-owns.ensures
+
+pub make_sweepers-requires-clause-within : goal.make_sweepers-requires-clause-within
+make_sweepers-requires-clause-within g c =
+    subst (λ (l : List Value). c.args.used ≤ length l) (sym c.deref-2.ensures.value) c.requires.within
+
+pub make_sweepers-requires-clause-none : goal.make_sweepers-requires-clause-none
+make_sweepers-requires-clause-none g c =
+    subst (λ (l : List Value). HoldNoneFrom l c.args.used) (sym c.deref-2.ensures.value) c.requires.none
 
 pub run_to_idle-requires-clause-whole : goal.run_to_idle-requires-clause-whole
 run_to_idle-requires-clause-whole g c = λ κs h.
