@@ -7,8 +7,8 @@
 //!
 //! Invariant: every number stands in the list of its segment's generation, once; an open segment is of its
 //! area; the dirty ones are listed, and no others; four counters are what a count would give; each segment in
-//! use has a start; between collections no start is held. `new`, `allocate`, `copy` and `follow` alone take
-//! memory; no call looks through all segments.
+//! use has a start; between collections no start is held. `new`, `allocate`, `copy`, `copy_pair` and `follow`
+//! alone take memory; no call looks through all segments.
 #![tactic(auto)]
 
 #[cfg(test)]
