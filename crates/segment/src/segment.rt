@@ -177,6 +177,15 @@ impl Segment {
         self.births.len()
     }
 
+    /// All its words, and for each two of them the birth of what starts there, or 0.
+    #[inline(always)]
+    pub fn words_and_births(&self) -> (&[u64], &[u32])
+        ensures words { result.0.now ≡ self.now.words }
+        ensures births { result.1.now ≡ self.now.births }
+    {
+        (self.words.as_slice(), self.births.as_slice())
+    }
+
     /// Whether an object or cell starts at offset 2 k of a segment in use.
     #[inline(always)]
     pub fn starts_at(&self, k: usize) -> bool

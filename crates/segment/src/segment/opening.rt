@@ -205,9 +205,16 @@ fn clear_words(words: &mut Vec<u64>, top: usize)
     requires zero_above { (i : ℕ) → top ≤ i → slice_index words.old.items i ≡ 0 }
     ensures { words.new.items ≡ replicate (vec_len words.old) 0 }
 {
-    for at in 0..top {
-        words[at] = 0;
-    }
+    clear_front(words.as_mut_slice(), top);
+}
+
+/// The same in a slice.
+fn clear_front(words: &mut [u64], top: usize)
+    requires top_in { top ≤ length words.old }
+    requires zero_above { (i : ℕ) → top ≤ i → slice_index words.old i ≡ 0 }
+    ensures { words.new ≡ replicate (length words.old) 0 }
+{
+    words[..top].fill(0);
 }
 
 /// Makes all cards clean, of which there are so many.

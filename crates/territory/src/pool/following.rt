@@ -112,19 +112,27 @@ fn start_of(word: u64, between: Between) -> Option<usize>
     }
 }
 
-/// The same, where something starts there that has no place.
+/// The same, where something starts there that has no place. The births of `from` are lent apart, so that they stay at hand.
 #[inline(always)]
-fn unplaced(from: &Segment, between: Between, word: u64, places: &[u64]) -> Option<usize>
+fn unplaced(
+    from: &Segment,
+    births: &[u32],
+    between: Between,
+    word: u64,
+    places: &[u64],
+) -> Option<usize>
+    requires births { births.now ≡ from.now.births }
     requires parts { HasParts between.thread between.from 0 }
     requires used { is_free from.now.role ≡ false }
     requires starts { length from.now.births ≡ 256 }
     requires places { length places.now ≡ 256 }
     ensures object { IfSome result (λ k. value_of word ≡ Some (value.Object (object_at between k))) }
     ensures start { IfSome result (IsStart from.now) }
+    ensures small { IfSome result (λ k. k < 256) }
     ensures unplaced { IfSome result (λ k. slice_index places.now k ≡ 0) }
 {
     let k = start_of(word, between)?;
-    if from.starts_at(k) && places[k] == NO_PLACE {
+    if births[k] > 0 && places[k] == NO_PLACE {
         Some(k)
     } else {
         None
@@ -132,10 +140,12 @@ fn unplaced(from: &Segment, between: Between, word: u64, places: &[u64]) -> Opti
 }
 
 /// Copies start `k` to the top of the segment `to`, and puts its place into word `index` of the copy of `tip`. Gives the
-/// pair with the offset of its copy.
+/// pair with the offset of its copy. The words and births of `from` are lent apart, so that they stay at hand.
 #[inline(always)]
 fn reach(
     from: &Segment,
+    words: &[u64],
+    births: &[u32],
     to: &mut Segment,
     between: Between,
     k: usize,
@@ -147,7 +157,10 @@ fn reach(
     requires between { IsBetween between from.now to.old places.old }
     requires tip { IsTip from.now to.old tip.start tip.offset tip.car tip.cdr }
     requires index { index < 2 }
+    requires words { words.now ≡ from.now.words }
+    requires births { births.now ≡ from.now.births }
     requires start { IsStart from.now k }
+    requires small { k < 256 }
     requires unplaced { slice_index places.old k ≡ 0 }
     requires refers { value_of (slice_index from.now.words (2 * tip.start + index)) ≡ Some (value.Object (object_at between k)) }
     requires room { HasRoom to.old 2 }
@@ -161,8 +174,9 @@ fn reach(
     ensures words { length to.new.words ≡ length to.old.words }
     ensures copies { (j : ℕ) → IsStart to.old j → IsStart to.new j }
 {
-    let (car, cdr) = from.two_words(k);
-    let offset = to.grow_two(car, cdr, from.birth(k));
+    let car = words[2 * k];
+    let cdr = words[2 * k + 1];
+    let offset = to.grow_two(car, cdr, births[k]);
     let place = between.copy(offset);
     let word = encode(Value::Object(place));
     to.put_in_pair(tip.offset / 2, index, word);
@@ -180,6 +194,8 @@ fn reach(
 #[inline(always)]
 fn sweep_car(
     from: &Segment,
+    words: &[u64],
+    births: &[u32],
     to: &mut Segment,
     between: Between,
     tip: Tip,
@@ -188,6 +204,8 @@ fn sweep_car(
 ) -> bool
     requires between { IsBetween between from.now to.old places.old }
     requires tip { IsTip from.now to.old tip.start tip.offset tip.car tip.cdr }
+    requires words { words.now ≡ from.now.words }
+    requires births { births.now ≡ from.now.births }
     requires spare { HasSpare to.old (length log.old.waiting.items) (vec_capacity log.old.waiting) }
     ensures swept { IsTrue result → IsCarSweptIn between from.now
         (reel to.old places.old log.old.own.items log.old.waiting.items)
@@ -202,13 +220,13 @@ fn sweep_car(
     ensures no_more { length log.new.waiting.items + to.old.top ≤ length log.old.waiting.items + to.new.top }
     ensures words { length to.new.words ≡ length to.old.words }
 {
-    let Some(k) = unplaced(from, between, tip.car, places) else {
+    let Some(k) = unplaced(from, births, between, tip.car, places) else {
         return object_in(tip.car).is_none();
     };
     if !to.has_room_for_two() {
         return false;
     }
-    let next = reach(from, to, between, k, tip, 0, places, log);
+    let next = reach(from, words, births, to, between, k, tip, 0, places, log);
     log.waiting
         .push_reserved((between.object(k), between.copy(next.offset)));
     true
@@ -248,6 +266,8 @@ fn take_waiting(
 #[inline(always)]
 fn sweep_cdr(
     from: &Segment,
+    words: &[u64],
+    births: &[u32],
     to: &mut Segment,
     between: Between,
     tip: Tip,
@@ -256,6 +276,8 @@ fn sweep_cdr(
 ) -> Option<Tip>
     requires between { IsBetween between from.now to.old places.old }
     requires tip { IsTip from.now to.old tip.start tip.offset tip.car tip.cdr }
+    requires words { words.now ≡ from.now.words }
+    requires births { births.now ≡ from.now.births }
     requires spare { HasSpare to.old (length log.old.waiting.items) (vec_capacity log.old.waiting) }
     ensures swept { IfSome result (λ t. IsCdrSweptIn between from.now
         (reel to.old places.old log.old.own.items log.old.waiting.items)
@@ -271,7 +293,7 @@ fn sweep_cdr(
         length log.new.waiting.items + to.old.top < length log.old.waiting.items + to.new.top) }
     ensures words { length to.new.words ≡ length to.old.words }
 {
-    let Some(k) = unplaced(from, between, tip.cdr, places) else {
+    let Some(k) = unplaced(from, births, between, tip.cdr, places) else {
         if object_in(tip.cdr).is_some() {
             return None;
         }
@@ -287,7 +309,7 @@ fn sweep_cdr(
     if !to.has_room_for_two() {
         return None;
     }
-    Some(reach(from, to, between, k, tip, 1, places, log))
+    Some(reach(from, words, births, to, between, k, tip, 1, places, log))
 }
 
 /// How many pairs lie between two tops of a segment.
@@ -320,10 +342,11 @@ pub(super) fn follow_from(
     ensures count { length log.new.own.items ≡ length log.old.own.items + result.count }
     ensures few { result.count ≤ 256 }
 {
+    let (words, births) = from.words_and_births();
     let before = to.top();
     let mut tip = first;
-    while sweep_car(from, to, between, tip, places, log) {
-        match sweep_cdr(from, to, between, tip, places, log) {
+    while sweep_car(from, words, births, to, between, tip, places, log) {
+        match sweep_cdr(from, words, births, to, between, tip, places, log) {
             Some(next) => tip = next,
             None => {
                 return End {
@@ -342,6 +365,7 @@ pub(super) fn follow_from(
 }
 
 /// The same from one segment of a list to another.
+#[inline(always)]
 fn follow_apart(
     segments: &mut [Segment],
     between: Between,
@@ -388,6 +412,7 @@ fn follow_apart(
 
 impl Pool {
     /// Whether pairs of one segment can be copied to another one: to the open segment of its area, both of pairs alone.
+    #[inline(always)]
     pub fn can_follow(&self, between: Between) -> bool
         requires settled { IsSettled self.now }
         requires from_within { between.from < length self.now.segments }
@@ -410,6 +435,7 @@ impl Pool {
 
     /// Follows pairs of one segment from start `k` on, of which a copy stands at an offset of the other one: as long as
     /// that has room, and what is referred to lies in the first one and has no place.
+    #[inline(always)]
     pub fn follow(
         &mut self,
         between: Between,

@@ -1,4 +1,4 @@
-use Rattle.std.proofs.Common.{◌≡◌, ◌∙◌, ◌/◌, ◌++◌, ◌∷◌, [], Some, set, ap, subst, refl, sym}
+use Rattle.std.proofs.Common.{◌≡◌, ◌+◌, ◌*◌, get_or, ◌∙◌, ◌/◌, ◌++◌, ◌∷◌, [], Some, set, ap, subst, refl, sym}
 use Rattle.std.proofs.lemmas.List.{length-set}
 use Rattle.gc_words.specs.declared.value.Value.TheVariants as value
 use Rattle.segment.specs.Segments.{put_in}
@@ -8,17 +8,17 @@ use Rattle.territory.proofs.Reeling.{size_pair, copied_two, put_at, reached_betw
 use Rattle.territory.proofs.pool.following.reach.Goals as goal
 
 pub grow_two-offset-requires-clause-size_is : goal.grow_two-offset-requires-clause-size_is
-grow_two-offset-requires-clause-size_is c = size_pair c.args.to.now c.two_words-car.result.0 c.requires.between.to_space
+grow_two-offset-requires-clause-size_is c = size_pair c.args.to.now _ c.requires.between.to_space
 
 pub put_in_pair-requires-clause-index_in : goal.put_in_pair-requires-clause-index_in
 put_in_pair-requires-clause-index_in c =
     put_at c.args.between c.args.from.now c.args.to.now c.grow_two-offset.new.self c.args.places.now c.args.k c.args.tip.offset c.args.index c.requires.between c.requires.start c.requires.room c.requires.tip.copy c.requires.index
-    (copied_two _ _ _ _ _ _ _ c.requires.between.from_sound c.requires.between.from_space c.requires.start c.two_words-car.ensures.first c.two_words-car.ensures.second c.birth.ensures c.grow_two-offset.ensures.after)
+    (copied_two _ _ _ _ _ _ _ c.requires.between.from_sound c.requires.between.from_space c.requires.start (ap (λ v. get_or v (2 * c.args.k) 0) c.requires.words) (ap (λ v. get_or v (2 * c.args.k + 1) 0) c.requires.words) (ap (λ v. get_or v c.args.k 0) c.requires.births) c.grow_two-offset.ensures.after)
 
 pub returns-clause-reached : goal.returns-clause-reached
 returns-clause-reached c =
     let grown : c.grow_two-offset.new.self ≡ with_copy c.args.to.now c.args.from.now c.args.k =
-    copied_two _ _ _ _ _ _ _ c.requires.between.from_sound c.requires.between.from_space c.requires.start c.two_words-car.ensures.first c.two_words-car.ensures.second c.birth.ensures c.grow_two-offset.ensures.after in
+    copied_two _ _ _ _ _ _ _ c.requires.between.from_sound c.requires.between.from_space c.requires.start (ap (λ v. get_or v (2 * c.args.k) 0) c.requires.words) (ap (λ v. get_or v (2 * c.args.k + 1) 0) c.requires.words) (ap (λ v. get_or v c.args.k 0) c.requires.births) c.grow_two-offset.ensures.after in
     let place : c.copy-place.result ≡ copy_at c.args.between c.grow_two-offset.result = c.copy-place.ensures in
     record {
       refers = c.requires.refers;
@@ -36,6 +36,6 @@ returns-clause-reached c =
 pub returns-clause-between : goal.returns-clause-between
 returns-clause-between c =
     let grown : c.grow_two-offset.new.self ≡ with_copy c.args.to.now c.args.from.now c.args.k =
-    copied_two _ _ _ _ _ _ _ c.requires.between.from_sound c.requires.between.from_space c.requires.start c.two_words-car.ensures.first c.two_words-car.ensures.second c.birth.ensures c.grow_two-offset.ensures.after in
+    copied_two _ _ _ _ _ _ _ c.requires.between.from_sound c.requires.between.from_space c.requires.start (ap (λ v. get_or v (2 * c.args.k) 0) c.requires.words) (ap (λ v. get_or v (2 * c.args.k + 1) 0) c.requires.words) (ap (λ v. get_or v c.args.k 0) c.requires.births) c.grow_two-offset.ensures.after in
     subst (λ v. IsBetween c.args.between c.args.from.now v (set c.args.places.now c.args.k c.encode-word.result)) (sym (c.put_in_pair.ensures ∙ ap (λ v. put_in v (c.args.tip.offset / 2) c.args.index c.encode-word.result) grown))
     (reached_between c.args.between c.args.from.now c.args.to.now c.args.places.now (set c.args.places.now c.args.k c.encode-word.result) c.args.k c.args.tip.offset c.args.index c.encode-word.result c.requires.between c.requires.start c.requires.room c.requires.tip.copy c.requires.index (length-set c.args.places.now c.args.k c.encode-word.result))
