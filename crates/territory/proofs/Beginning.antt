@@ -179,7 +179,7 @@ open_listed p k n t h =
     subst (λ v. IsIn p.lists v n) at (listed_at p.segments p.lists n t.listed linked)
 
 -- so a generation without segments has no open area
-closed_none : (p : PoolView) (g : ℕ) → IsSettled p → chain_of p.lists (1 + g) ≡ [] → AreClosed p.areas p.areas g 8 0
+pub closed_none : (p : PoolView) (g : ℕ) → IsSettled p → chain_of p.lists (1 + g) ≡ [] → AreClosed p.areas p.areas g 8 0
 closed_none p g t e = record {
   same = refl;
   inside = λ k same below. nothing (get_or p.areas k None) (λ n h.

@@ -1,17 +1,19 @@
 -- A generation more is set aside.
-use Rattle.std.proofs.Common.{◌≡◌, ◌≢◌, ℕ, ◌+◌, ◌%◌, ◌<◌, ◌≤◌, Bool, true, false, cond, nat_lt, ◌&&◌, [], ◌++◌, length, get_or, None, refl, sym, ◌∙◌, ap, subst, arith, inl, inr, ◌⊎◌}
+use Rattle.std.proofs.Common.{◌≡◌, ◌≢◌, ℕ, ◌+◌, ◌%◌, ◌<◌, ◌≤◌, Bool, true, false, cond, nat_lt, ◌&&◌, List, [], ◌∷◌, ◌++◌, length, append-nil, get_or, Option, None, refl, sym, ◌∙◌, ap, subst, arith, inl, inr, ◌⊎◌}
 use Rattle.std.proofs.lemmas.Bool.{cases_eq, cases_lt}
 use Rattle.std.proofs.lemmas.Bool.Decides.{nat_tests}
 use Rattle.std.proofs.lemmas.List.{get_or_past}
+use Rattle.std.specs.Prelude.{◌==◌}
 use Rattle.seg_chain.specs.Lists.{chain_of, times, spliced}
+use Rattle.seg_chain.proofs.Counts.{here_in}
 use Rattle.seg_chain.proofs.Laws.{length-spliced, chain_of-spliced_from, chain_of-spliced_to, chain_of-spliced_other}
 use Rattle.segment.specs.declared.segment.Role.{Role}
 use Rattle.segment.specs.declared.segment.Role.TheVariants.{Free, Current, From}
-use Rattle.segment.specs.Segments.{Segment, set_aside}
+use Rattle.segment.specs.Segments.{Segment, set_aside, vacant}
 use Rattle.territory.specs.Pools.{PoolView, numbered, list_of, list_for, IsIn, IsSettled}
 use Rattle.territory.specs.Changes.{AreSetAside, AreClosed, AreBegun, begun, is_current}
 use Rattle.territory.proofs.Listing.{listed_at, in_use_linked}
-use Rattle.territory.proofs.Beginning.{listed_current}
+use Rattle.territory.proofs.Beginning.{closed_none, listed_current}
 
 below_none : (x : ℕ) → nat_lt x 0 ≡ false
 below_none x = grind (arith, nat_tests)
@@ -121,3 +123,48 @@ begun_more old mid new g closed s t small b a is c d =
       ];
       dirty = d ∙ b.dirty;
     }
+
+-- ---- a pool without segments
+
+no_number : (xs : List ℕ) → ((n : ℕ) → 0 < times n xs → ⊥) → xs ≡ []
+no_number [] h = refl
+no_number (x ∷ xs) h = absurd (h x (here_in x xs))
+
+vacant_at : (p : PoolView) (n : ℕ) → length p.segments ≡ 0 → numbered p.segments n ≡ vacant
+vacant_at p n none = get_or_past p.segments n vacant (omega arith)
+
+-- no number stands in the list of a generation
+list_without : (p : PoolView) (g : ℕ) → IsSettled p → length p.segments ≡ 0 → chain_of p.lists (1 + g) ≡ []
+list_without p g t none = no_number (chain_of p.lists (1 + g)) (λ n i.
+    let at : 0 ≡ 1 + g = sym (ap list_of (vacant_at p n none)) ∙ t.listed.fits (1 + g) n i in absurd (omega (arith, at)))
+
+area_without : (p : PoolView) (k : ℕ) → IsSettled p → length p.segments ≡ 0 → get_or p.areas k None ≡ None
+area_without p k t none =
+    elim (cases_lt k 72) [
+      | inl h ↦ (closed_none p (k % 9) t (list_without p (k % 9) t none)).inside k refl (omega arith)
+      | inr far ↦ get_or_past p.areas k None (omega (arith, t.open_areas.count))
+    ]
+
+either : (A : Type 0) (b : Bool) (x y : A) → y ≡ x → y ≡ cond b x y
+either A true x y e = e
+either A false x y e = refl
+
+-- so it is as it would be after any generations were set aside
+begun_without : (p : PoolView) (end : ℕ) → IsSettled p → length p.segments ≡ 0 → AreBegun p p end
+begun_without p end t none = record {
+  same = refl;
+  segments = λ n. subst (λ v. v ≡ begun end v) (sym (vacant_at p n none)) refl;
+  areas_same = refl;
+  areas = λ k. either (Option ℕ) (nat_lt (k % 9) end) None (get_or p.areas k None) (area_without p k t none);
+  lists_same = refl;
+  free = refl;
+  current = λ g h. either (List ℕ) (nat_lt g end) [] (chain_of p.lists (1 + g)) (list_without p g t none);
+  from = λ g h. either (List ℕ) (nat_lt g end) (chain_of p.lists (10 + g) ++ chain_of p.lists (1 + g)) (chain_of p.lists (10 + g))
+      (sym (ap (λ v. chain_of p.lists (10 + g) ++ v) (list_without p g t none) ∙ append-nil (chain_of p.lists (10 + g))));
+  dirty = refl;
+}
+
+pub begun_empty : (p now : PoolView) (n end : ℕ) (b : Bool) → p ≡ now → IsSettled now → length p.segments ≡ n → b ≡ (n == 0) → b ≡ true → AreBegun now now end
+begun_empty p now n end b e t len is holds =
+    let zero : n ≡ 0 = (let test : (n == 0) ≡ true = sym is ∙ holds in grind (arith, nat_tests, test)) in
+    begun_without now end t (sym (ap (λ (q : PoolView). length q.segments) e) ∙ (len ∙ zero))

@@ -75,8 +75,8 @@ impl Pool {
         self.counts.open_areas -= closed;
     }
 
-    /// Sets the segments of the generations up to `cg` aside, and closes their areas.
-    pub fn begin(&mut self, cg: u8)
+    /// Sets the segments of the generations up to `cg` aside, and closes their areas: one generation after the other.
+    fn set_generations_aside(&mut self, cg: u8)
         requires settled { IsSettled self.old }
         requires cg_in { cg < 9 }
         ensures settled { IsSettled self.new }
@@ -85,5 +85,20 @@ impl Pool {
         for generation in 0..cg + 1 {
             self.set_generation_aside(generation);
         }
+    }
+
+    /// Sets the segments of the generations up to `cg` aside, and closes their areas.
+    // Most threads have no segment at all, and each collection begins in all 64 of them.
+    #[inline(always)]
+    pub fn begin(&mut self, cg: u8)
+        requires settled { IsSettled self.old }
+        requires cg_in { cg < 9 }
+        ensures settled { IsSettled self.new }
+        ensures begun { AreBegun self.old self.new (cg + 1) }
+    {
+        if self.segments.is_empty() {
+            return;
+        }
+        self.set_generations_aside(cg);
     }
 }
