@@ -14,7 +14,7 @@ ghost use Rattle.sweep_places.specs.Places.{IsOwnStart};
 use directory::{Directory, FromSegment};
 use gc_words::{Address, Value, decode, encode};
 use http_server::Log;
-use std::alloc::{AllocError, Global};
+use std::alloc::AllocError;
 use std::marker::Model;
 use std::snapshot::Snapshot;
 use sweep_share::Share;
@@ -57,11 +57,14 @@ impl Model for Places {
         × (p.log.count ≡ length p.log.own.items) };
 }
 
-/// A table of objects that were not forwarded.
-fn empty_table(alloc: Global, count: usize) -> Result<Vec<u64>, AllocError>
+/// A table of objects that were not forwarded, in this memory, whatever it holds. Takes more where it has no room for it.
+fn empty_table(memory: Vec<u64>, count: usize) -> Result<Vec<u64>, AllocError>
     ensures { IfOk result (λ v. v.items ≡ replicate count 0) }
 {
-    vec![in alloc; NO_PLACE; count]
+    let mut table = memory;
+    table.clear();
+    table.resize(count, NO_PLACE)?;
+    Ok(table)
 }
 
 /// One more. Err where a `u64` doesn't count so far.
@@ -103,13 +106,15 @@ fn follow_at(
 }
 
 impl Places {
-    /// Places of which none is known yet, for a sweeper of this directory. Takes memory for each of its words.
-    pub fn new(alloc: Global, directory: &Directory, number: u32) -> Result<Places, AllocError>
+    /// Places of which none is known yet, for a sweeper of this directory. Their table, of a word for each of the
+    /// sweeper's, stands in this memory, whatever it holds. Takes more where it has no room for the table.
+    pub fn new(directory: &Directory, number: u32, memory: Vec<u64>) -> Result<Places, AllocError>
         requires { number < sweeper_count directory.now }
         ensures { IfOk result (λ p. p ≡ record { number = number; directory = directory.now; own = []; unswept = [] }) }
     {
+        let alloc = *memory.allocator();
         let first = directory.first_word(number);
-        let table = empty_table(alloc, directory.range(number))?;
+        let table = empty_table(memory, directory.range(number))?;
         Ok(Places {
             number,
             directory: Snapshot::of(directory),
@@ -121,6 +126,11 @@ impl Places {
                 waiting: Vec::new(alloc),
             },
         })
+    }
+
+    /// The memory of their table, whatever it holds, for the places of a later collection.
+    pub fn into_memory(self) -> Vec<u64> {
+        self.table
     }
 
     /// How many objects were forwarded.

@@ -112,7 +112,7 @@ fn a_list_is_followed(rt: HostRuntime) -> Result<(), Fail> {
     };
     let territories = all_begun(alloc, targets)?;
     let directory = Directory::new(alloc, &territories, targets, 1)?;
-    let mut places = Places::new(alloc, &directory, 0)?;
+    let mut places = Places::new(&directory, 0, Vec::new(alloc))?;
     let mut share = Share::new(alloc, 0, 1, territories)?;
     let first = Address::new(5, 0, 0).ok_or("an address")?;
     let second = Address::new(5, 0, 2).ok_or("an address")?;
@@ -137,7 +137,7 @@ fn a_place_is_noted(rt: HostRuntime) -> Result<(), Fail> {
     };
     let territories = all_begun(alloc, targets)?;
     let directory = Directory::new(alloc, &territories, targets, 3)?;
-    let mut places = Places::new(alloc, &directory, 2)?;
+    let mut places = Places::new(&directory, 2, Vec::new(alloc))?;
     let at = Address::new(5, 0, 0).ok_or("an address")?;
     let place = Address::new(5, 1, 0).ok_or("an address")?;
     let word = own_start(&directory, 2, at).ok_or("an object of its own")?;

@@ -88,8 +88,10 @@ impl Sweeper {
         ensures registers { result.registers.items ≡ self.registers.items }
         ensures numbers { AreRegistersOf self.registers.number self.registers.sweepers result.registers.items }
     {
+        let mut share = self.share;
+        share.leave_spare(self.places.into_memory());
         SweeperParts {
-            territories: self.share.finish(),
+            territories: share.finish(),
             registers: self.registers.into_items(),
         }
     }

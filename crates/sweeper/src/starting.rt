@@ -175,7 +175,7 @@ impl Sweeper {
         let sweepers = directory.sweepers();
         let mut share = Share::new(alloc, number, sweepers, territories)?;
         let registers = Registers::new(number, sweepers, registers);
-        let places = Places::new(alloc, directory, number)?;
+        let places = Places::new(directory, number, share.take_spare())?;
         let inbox = Inbox::new(alloc);
         let outbox = Outbox::new(alloc);
         let mut mail = Mail { inbox, outbox };

@@ -13,12 +13,12 @@ ask_registers-requires c =
 pub returns-clause-begun : goal.returns-clause-begun
 returns-clause-begun c = λ world good begins.
     begun world c.args.number c.args.directory.now c.args.territories.items c.args.registers.items
-    c.in_ok-share.share
+    c.take_spare.new.self
     c.raise_cards.new.self c.new-registers.result c.in_ok-places.places
     (record { inbox = c.new-inbox.result; outbox = c.new-outbox.result }) c.ask_registers.new.self
     c.ask_territories.new.self
     c.cg.result c.requires.territories c.requires.registers
-    (c.in_ok-share.ensures ∙ ap (λ (n : ℕ). let w : ShareView = record {
+    (c.take_spare.ensures ∙ c.in_ok-share.ensures ∙ ap (λ (n : ℕ). let w : ShareView = record {
       number = c.args.number;
       sweepers = n;
       territories = c.args.territories.items;
