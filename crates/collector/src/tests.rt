@@ -175,3 +175,21 @@ fn the_largest_vector_is_copied(rt: HostRuntime) -> Result<(), Fail> {
     }
     Ok(())
 }
+
+#[test]
+fn the_bound_on_registers_stays(rt: HostRuntime) -> Result<(), Fail> {
+    let mut heap = Heap::new(rt.alloc(), 3)?;
+    assert_eq!(rt; make_list(&mut heap, 3, 1), Ok(()));
+    let counts = copied(&rt, rt.alloc(), &mut heap, YOUNG, 1)?;
+    assert_eq!(rt; counts, Ok(vec![in rt.alloc(); 3; 1]?));
+    assert_eq!(rt; heap.used_registers(), 2);
+    let args = CollectArgs::Explicit {
+        cg: 7,
+        min: 8,
+        max: 8,
+    };
+    let answer = copied(&rt, rt.alloc(), &mut heap, args, 1)?;
+    assert_eq!(rt; answer, Err(HeapError::Fault(Fault::BadGeneration)));
+    assert_eq!(rt; heap.used_registers(), 2);
+    Ok(())
+}
