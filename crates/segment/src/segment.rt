@@ -3,7 +3,7 @@
 ghost use Rattle.std.specs.Prelude.{◌≡◌, ◌+◌, ◌/◌, ◌*◌, ◌<◌, ◌↔◌, false, length, slice_index, IsTrue};
 ghost use Rattle.segment.specs.Layout.{size_of};
 ghost use Rattle.segment.specs.declared.space.Space.TheVariants.{Pair};
-ghost use Rattle.segment.specs.Segments.{IsStart, HasRoom, count_of_births, is_free, is_some_marked, object_at, place_in, grown, put_in, marked_at};
+ghost use Rattle.segment.specs.Segments.{IsStart, HasRoom, count_of_births, is_some_marked, object_at, place_in, grown, put_in, marked_at};
 
 mod aging;
 mod collecting;
@@ -184,16 +184,6 @@ impl Segment {
         ensures births { result.1.now ≡ self.now.births }
     {
         (self.words.as_slice(), self.births.as_slice())
-    }
-
-    /// Whether an object or cell starts at offset 2 k of a segment in use.
-    #[inline(always)]
-    pub fn starts_at(&self, k: usize) -> bool
-        requires used { is_free self.now.role ≡ false }
-        requires within { k < length self.now.births }
-        ensures { IsTrue result ↔ IsStart self.now k }
-    {
-        self.births[k] > 0
     }
 
     /// Whether an object or cell starts at the offset, in words.

@@ -1,6 +1,6 @@
 //! Messages are handled: an object is asked for, or a place is told.
 
-ghost use Rattle.std.specs.Prelude.{◌≡◌, ◌+◌, [], IfOk, OnOk, length, true, false};
+ghost use Rattle.std.specs.Prelude.{◌≡◌, ◌+◌, ◌<◌, [], IfOk, OnOk, length, true, false};
 ghost use Rattle.gc_mail.specs.Recipients.{HasRecipient, holder_of};
 ghost use Rattle.gc_mail.specs.declared.message.Message.TheVariants as message;
 ghost use Rattle.territory.specs.Finishing.{target_of};
@@ -12,6 +12,10 @@ use directory::Directory;
 use gc_mail::{Message, Slot, holder};
 use gc_words::Address;
 use std::alloc::AllocError;
+
+/// How many messages are handled before what they kept is swept. So few objects wait for that, and their words are
+/// still near.
+const HANDFUL: u32 = 256;
 
 impl Sweeper {
     /// Keeps an object of its own that was asked for. Its place is written where the slot is of this sweeper, and else
@@ -88,14 +92,19 @@ impl Sweeper {
         }
     }
 
-    /// Handles all messages.
-    pub(crate) fn handle_all(&mut self, directory: &Directory) -> Result<(), AllocError>
+    /// Handles the next messages, at most `HANDFUL` of them, and answers whether there were so many.
+    pub(crate) fn handle_some(&mut self, directory: &Directory) -> Result<bool, AllocError>
         requires same { self.old.places.directory ≡ directory.now }
         requires ready { Ready self.old }
         ensures runs { OnOk result (Runs self.old self.new) }
-        ensures inbox { OnOk result (self.new.inbox ≡ []) }
+        ensures more { IfOk result (λ b. b ≡ true → length self.new.inbox < length self.old.inbox) }
+        ensures done { IfOk result (λ b. b ≡ false → self.new.inbox ≡ []) }
     {
-        while self.handle_next(directory)? {}
-        Ok(())
+        for _ in 0..HANDFUL {
+            if !self.handle_next(directory)? {
+                return Ok(false);
+            }
+        }
+        Ok(true)
     }
 }

@@ -1,6 +1,6 @@
 //! A round of a sweeper.
 
-ghost use Rattle.std.specs.Prelude.{◌≡◌, ◌+◌, ◌-◌, ◌^◌, true, [], OnErr, OnOk, min};
+ghost use Rattle.std.specs.Prelude.{◌≡◌, ◌+◌, ◌-◌, ◌^◌, ◌<◌, true, false, [], IfOk, OnErr, OnOk, length, min};
 ghost use Rattle.sweeper.specs.Ready.{Ready, Runs, RunsRound};
 
 use crate::Sweeper;
@@ -31,6 +31,20 @@ impl Sweeper {
         worked
     }
 
+    /// Handles the next messages, and sweeps what is unswept. Answers whether further messages may be there.
+    fn work_on(&mut self, directory: &Directory) -> Result<bool, AllocError>
+        requires same { self.old.places.directory ≡ directory.now }
+        requires ready { Ready self.old }
+        ensures runs { OnOk result (Runs self.old self.new) }
+        ensures more { IfOk result (λ b. b ≡ true → length self.new.inbox < length self.old.inbox) }
+        ensures done { IfOk result (λ b. b ≡ false → self.new.inbox ≡ []) }
+        ensures swept { OnOk result (self.new.places.unswept ≡ []) }
+    {
+        let more = self.handle_some(directory)?;
+        self.sweep_all(directory)?;
+        Ok(more)
+    }
+
     /// Handles all messages, and sweeps what is unswept.
     fn work(&mut self, directory: &Directory) -> Result<(), AllocError>
         requires same { self.old.places.directory ≡ directory.now }
@@ -39,8 +53,7 @@ impl Sweeper {
         ensures inbox { OnOk result (self.new.inbox ≡ []) }
         ensures swept { OnOk result (self.new.places.unswept ≡ []) }
     {
-        self.handle_all(directory)?;
-        self.sweep_all(directory)?;
+        while self.work_on(directory)? {}
         Ok(())
     }
 }
