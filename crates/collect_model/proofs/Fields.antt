@@ -51,7 +51,7 @@ module _ (world : World) (hands : ℕ → Hand) (g : Starts) (registers : List V
 
   -- what a field asks for
   field_asks : (i : ℕ) (b : Bool) → is_strong old.kind i ≡ b
-      → asks world (back.Field x i)
+      → asks world (back.Field i x)
       ≡ if_collected world (object_in (cond b (value_of (get_or old.words i 0)) None))
   field_asks i b is =
       ap (λ o. if_collected world (object_in o))
@@ -63,7 +63,7 @@ module _ (world : World) (hands : ℕ → Hand) (g : Starts) (registers : List V
       → ReadsAs world.image g (value_of (get_or old.words i 0)) (value_of (get_or new.words i 0))
   word_again has there i below =
       reads_again world hands g registers good ended
-      (value_of (get_or old.words i 0)) (value_of (get_or new.words i 0)) (asks world (back.Field x i))
+      (value_of (get_or old.words i 0)) (value_of (get_or new.words i 0)) (asks world (back.Field i x))
       (word_there world.image old.words there i below)
       (sym (field_asks i true (has.strong i)))
       (λ none. ap value_of (l.kept.plain i none))

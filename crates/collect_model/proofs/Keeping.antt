@@ -86,7 +86,7 @@ module _ (h : HeapView) (s : State) (targets : Targets) (n : ℕ) (w : Setting) 
       (subst (λ vs. IsTrue (has (objects_in vs) (birth_of (f t)))) (sym stands.registers.reads)
       (object_there (read f) h.registers r (word.Object t) (birth_of (f t)) held (has_one (birth_of (f t)))))
 
-  field_kept : (x i t : ℕ) → asks world (back.Field x i) ≡ Some t → IsKept x → IsKept t
+  field_kept : (x i t : ℕ) → asks world (back.Field i x) ≡ Some t → IsKept x → IsKept t
   field_kept x i t e member = by_start (f x) refl
     where
       named : object_in (strong_value (f x) i) ≡ Some t
@@ -105,7 +105,7 @@ module _ (h : HeapView) (s : State) (targets : Targets) (n : ℕ) (w : Setting) 
   slot_kept : (b : Back) (t : ℕ) → asks world b ≡ Some t
       → ((x : ℕ) → IsTrue (has (rule_of (due_of world b t)).premises x) → IsKept x) → IsKept t
   slot_kept (back.Register r) t e premises = register_kept r t e
-  slot_kept (back.Field x i) t e premises = field_kept x i t e (premises x (has_one x))
+  slot_kept (back.Field i x) t e premises = field_kept x i t e (premises x (has_one x))
   slot_kept (back.Entry line part) t e premises = absurd (none-some t e)
   slot_kept (back.Wait x) t e premises = absurd (none-some t e)
   slot_kept back.Nothing t e premises = absurd (none-some t e)

@@ -68,11 +68,11 @@ module _ (h : HeapView) (s : State) (targets : Targets) (n : ℕ) (w : Setting) 
       subst (λ vs. IsTrue (has (objects_in vs) y)) (all_strong x.kind (fields_of f x) kind)
       (subst (λ q. IsTrue (has (strong_references q) y)) p.is refers) in
       let r = field_from f x kind (stands.closed.laid_out p.place x p.here).values y among in
-      let asked : asks world (back.Field p.place r.0) ≡ if_collected world (Some r.1) =
+      let asked : asks world (back.Field r.0 p.place) ≡ if_collected world (Some r.1) =
       ap (λ z. if_collected world (object_in (strong_value z r.0))) p.here ∙ ap (if_collected world) r.2 in
       let member = place_reached p.place x p.here (subst (λ c. IsTrue (has B c)) (sym p.same_birth) there) in
       birth_reached r.1 y
-      (slot_reached world w setting (back.Field p.place r.0) r.1 r.4 asked
+      (slot_reached world w setting (back.Field r.0 p.place) r.1 r.4 asked
       (and_from (has R p.place) true member refl)) r.3
 
   not_ephemeron : (b : ℕ) (o : Object) → object_at s.graph b ≡ Some o → IsTrue (is_ephemeron o.kind) → ⊥

@@ -14,7 +14,7 @@ owner sweepers a = thread_of a % sweepers
 -- line, and what belongs to an object is its owner's; nobody holds Nothing
 abbrev pub holder_of : ℕ → Slot → ℕ
 holder_of sweepers (Register number) = number % sweepers
-holder_of sweepers (Field object index) = owner sweepers object
+holder_of sweepers (Field index object) = owner sweepers object
 holder_of sweepers (Entry line part) = line % sweepers
 holder_of sweepers (Wait object) = owner sweepers object
 holder_of sweepers Nothing = 0

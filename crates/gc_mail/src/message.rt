@@ -19,7 +19,8 @@ pub enum Slot {
     /// The register of this number, 0 to 4095.
     Register(u32),
     /// The field of this index in the object that was at this address before the collection.
-    Field { object: Address, index: u32 },
+    // The index stands first, beside the variant's mark, so that a message takes 32 bytes and not 40.
+    Field { index: u32, object: Address },
     /// A part of the registration of this line: 0 its guardian, 1 its object, 2 its representative.
     Entry { line: u32, part: u8 },
     /// The key of an ephemeron that is looked at as though `object` were kept, for ordered guardians.

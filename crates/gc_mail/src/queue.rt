@@ -8,7 +8,7 @@ use std::collections::VecDeque;
 use std::marker::Model;
 use std::mem;
 
-/// How many messages a block has room for. It is then 20 KB: small enough to be had again from what another
+/// How many messages a block has room for. It is then 16 KB: small enough to be had again from what another
 /// queue gave back, and large enough that asking for it hardly counts beside its messages.
 const BLOCK: usize = 512;
 

@@ -27,7 +27,7 @@ owner_in n a h = omega arith
 
 pub holder_in : (n : ℕ) (b : Back) → 0 < n → holder_of n b < n
 holder_in n (back.Register r) h = omega arith
-holder_in n (back.Field x i) h = omega arith
+holder_in n (back.Field i x) h = omega arith
 holder_in n (back.Entry line part) h = omega arith
 holder_in n (back.Wait x) h = omega arith
 holder_in n back.Nothing h = h
@@ -59,7 +59,7 @@ module _ (world : World) (w : Setting) (setting : IsSettingOf world w) where
   -- what has a member is held by the owner of the member
   member_held : (b : Back) (x : ℕ) → member_of b ≡ Some x → w.owner x ≡ holder_of world.sweepers b
   member_held (back.Register r) x e = absurd (none-some x e)
-  member_held (back.Field y i) x e = setting.owner x ∙ ap (owner world.sweepers) (sym (same_Some _ _ e))
+  member_held (back.Field i y) x e = setting.owner x ∙ ap (owner world.sweepers) (sym (same_Some _ _ e))
   member_held (back.Entry line part) x e = absurd (none-some x e)
   member_held (back.Wait y) x e = absurd (none-some x e)
   member_held back.Nothing x e = absurd (none-some x e)

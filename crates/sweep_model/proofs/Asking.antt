@@ -41,7 +41,7 @@ mail_leaves : (world : World) (h : Hand) (inbox outbox : List Message) (b : Back
     → FixedAt world h b q
     → FixedAt world (record h { inbox = inbox; outbox = outbox }) b q
 mail_leaves world h inbox outbox (back.Register r) q f = f
-mail_leaves world h inbox outbox (back.Field x i) q f = f
+mail_leaves world h inbox outbox (back.Field i x) q f = f
 mail_leaves world h inbox outbox (back.Entry line part) q f = f
 mail_leaves world h inbox outbox (back.Wait x) q f = f
 mail_leaves world h inbox outbox back.Nothing q f = f

@@ -36,24 +36,24 @@ begun_other world w b t setting other =
 -- ---- the slots of the fields from i on
 
 -- a field that asks for nothing has no slot
-pub news_none : (world : World) (w : Setting) (x i n : ℕ) → asks world (back.Field x i) ≡ None
+pub news_none : (world : World) (w : Setting) (x i n : ℕ) → asks world (back.Field i x) ≡ None
     → news_from world w x i (suc n) ≡ news_from world w x (i + 1) n
 news_none world w x i n e = ap (λ o. news_at world w x i o ++ news_from world w x (i + 1) n) e
 
 -- the slot of one that asks for an object of the same owner was heard of
 pub news_own : (world : World) (w : Setting) (x i n t : ℕ) → IsSettingOf world w
-    → asks world (back.Field x i) ≡ Some t → owner world.sweepers t ≡ owner world.sweepers x
+    → asks world (back.Field i x) ≡ Some t → owner world.sweepers t ≡ owner world.sweepers x
     → news_from world w x i (suc n)
-    ≡ in_standing world (message.Forward t (back.Field x i)) ∷ news_from world w x (i + 1) n
+    ≡ in_standing world (message.Forward t (back.Field i x)) ∷ news_from world w x (i + 1) n
 news_own world w x i n t setting e own =
     ap (λ o. news_at world w x i o ++ news_from world w x (i + 1) n) e
-    ∙ ap (λ z. z ∷ news_from world w x (i + 1) n) (begun_own world w (back.Field x i) t setting own)
+    ∙ ap (λ z. z ∷ news_from world w x (i + 1) n) (begun_own world w (back.Field i x) t setting own)
 
 -- that of one that asks for an object of another owner is asked for
 pub news_other : (world : World) (w : Setting) (x i n t : ℕ) → IsSettingOf world w
-    → asks world (back.Field x i) ≡ Some t → owner world.sweepers t ≢ owner world.sweepers x
+    → asks world (back.Field i x) ≡ Some t → owner world.sweepers t ≢ owner world.sweepers x
     → news_from world w x i (suc n)
-    ≡ out_standing world (message.Forward t (back.Field x i)) ∷ news_from world w x (i + 1) n
+    ≡ out_standing world (message.Forward t (back.Field i x)) ∷ news_from world w x (i + 1) n
 news_other world w x i n t setting e other =
     ap (λ o. news_at world w x i o ++ news_from world w x (i + 1) n) e
-    ∙ ap (λ z. z ∷ news_from world w x (i + 1) n) (begun_other world w (back.Field x i) t setting other)
+    ∙ ap (λ z. z ∷ news_from world w x (i + 1) n) (begun_other world w (back.Field i x) t setting other)

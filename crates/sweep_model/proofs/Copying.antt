@@ -134,7 +134,7 @@ module _ (world : World) (w : Setting) (h h' : Hand) (todo : List Standing) (x q
 
   still_there : (c : Back) (t : ℕ) → FixedAt world h c t → FixedAt world h' c t
   still_there (back.Register r) t f = ap (λ g. g r) copied.register ∙ f
-  still_there (back.Field y i) t f = (f.0, still_at y f.0 f.1, still_written f.0 i t f.2)
+  still_there (back.Field i y) t f = (f.0, still_at y f.0 f.1, still_written f.0 i t f.2)
   still_there (back.Entry line part) t f = f
   still_there (back.Wait y) t f = f
   still_there back.Nothing t f = f

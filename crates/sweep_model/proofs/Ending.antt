@@ -125,7 +125,7 @@ module _ (world : World) (w : Setting) (hands : ℕ → Hand) (s : State)
   -- ---- what is kept is older or swept
 
   place_open : (x p i t : ℕ) → IsAt world (hands (owner world.sweepers x)).own x p
-      → asks world (back.Field x i) ≡ Some t → IsTrue (is_opened w s (Some x))
+      → asks world (back.Field i x) ≡ Some t → IsTrue (is_opened w s (Some x))
   place_open x p i t (inl stays) wants =
       let f = field_in world x i t wants in
       or_left (has w.older x) (is_swept s x) (setting.older x ∙ staying_older world x f.start f.is stays.0)
@@ -143,7 +143,7 @@ module _ (world : World) (w : Setting) (hands : ℕ → Hand) (s : State)
     alone = alone;
     fields = λ x p i t place wants.
         let h : Hand = hands (owner world.sweepers x) in
-        let met = open_met (back.Field x i) t wants (place_open x p i t place wants) in
+        let met = open_met (back.Field i x) t wants (place_open x p i t place wants) in
         let tied = (stand.ready (owner world.sweepers x) (owner_in world.sweepers x good.some)).tied in
         let same : met.2.0 ≡ p = one_place world h tied x met.2.0 p met.2.1 place in
         (met.0, met.1, subst (λ z. field_of (h.now z) i ≡ Some (value.Object met.0)) same met.2.2);

@@ -27,7 +27,7 @@ mailed_hand h ms = record h { inbox = ms; outbox = [] }
 placed_in : (world : World) (h : Hand) (ms : List Message) (b : Back) → IsPlaced world h b
     → IsPlaced world (mailed_hand h ms) b
 placed_in world h ms (back.Register r) p = p
-placed_in world h ms (back.Field x i) p = p
+placed_in world h ms (back.Field i x) p = p
 placed_in world h ms (back.Entry line part) p = p
 placed_in world h ms (back.Wait x) p = p
 placed_in world h ms back.Nothing p = p
@@ -42,11 +42,11 @@ module _ (world : World) (w : Setting) (before after : ℕ → Hand) (s : State)
       → Contains (before j).outbox (message.Moved b q) → asks world b ≡ Some t
       → (k : ℕ) → holder_of world.sweepers b ≡ k → IsPlaced world (before k) b
   placed j inside (back.Register r) q t c wants k held = tt
-  placed j inside (back.Field x i) q t c wants k held =
-      let u : Standing = out_standing world (message.Moved (back.Field x i) q) in
-      let stood = sent_stands world w before s stand j inside (message.Moved (back.Field x i) q) c in
-      let slot : u.slot ≡ slot_at world (back.Field x i) Keep t =
-      ap (λ o. slot_at world (back.Field x i) Keep (or_zero o)) wants in
+  placed j inside (back.Field i x) q t c wants k held =
+      let u : Standing = out_standing world (message.Moved (back.Field i x) q) in
+      let stood = sent_stands world w before s stand j inside (message.Moved (back.Field i x) q) c in
+      let slot : u.slot ≡ slot_at world (back.Field i x) Keep t =
+      ap (λ o. slot_at world (back.Field i x) Keep (or_zero o)) wants in
       subst (λ m. (p : ℕ) × IsAt world (before m).own x p) held
       (member_placed world w before s setting stand good u stood.0 x i t wants slot)
   placed j inside (back.Entry line part) q t c wants k held = tt

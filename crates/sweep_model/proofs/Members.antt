@@ -111,16 +111,16 @@ module _ (world : World) (w : Setting) (hands : ℕ → Hand) (s : State) (setti
         subst (λ m. IsTrue (is_opened w s m)) (ap (λ (d : Due). d.member) f.3 ∙ ap member_of same) due
 
     pub member_swept : (t : Standing) → Contains s.slots t → (x i u : ℕ)
-        → asks world (back.Field x i) ≡ Some u → t.slot ≡ slot_at world (back.Field x i) Keep u
+        → asks world (back.Field i x) ≡ Some u → t.slot ≡ slot_at world (back.Field i x) Keep u
         → (is_collected world x ≡ false) ⊎ IsSwept (hands (owner world.sweepers x)) x
     member_swept t c x i u wants is =
-        elim (or_cases (has w.older x) (is_swept s x) (opened t c (back.Field x i) u wants is)) [
+        elim (or_cases (has w.older x) (is_swept s x) (opened t c (back.Field i x) u wants is)) [
           | inl old ↦ inl (older_stays world x (sym (setting.older x) ∙ old))
           | inr swept ↦ inr (owner_swept x swept)
         ]
 
     pub member_placed : (t : Standing) → Contains s.slots t → (x i u : ℕ)
-        → asks world (back.Field x i) ≡ Some u → t.slot ≡ slot_at world (back.Field x i) Keep u
+        → asks world (back.Field i x) ≡ Some u → t.slot ≡ slot_at world (back.Field i x) Keep u
         → (p : ℕ) × IsAt world (hands (owner world.sweepers x)).own x p
     member_placed t c x i u wants is = elim (member_swept t c x i u wants is) [
       | inl stays ↦ (x, inl (stays, refl))

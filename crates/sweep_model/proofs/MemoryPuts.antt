@@ -20,7 +20,7 @@ use Rattle.sweep_model.proofs.Names.{HasField, field_in}
 
 module _ (world : World) (h h' : Hand) (x p i t word q : ℕ) (tied : Tied world h)
     (mine : owner world.sweepers x ≡ h.number) (at : IsAt world h.own x p)
-    (wants : asks world (back.Field x i) ≡ Some t) (is_word : value_of word ≡ Some (value.Object q))
+    (wants : asks world (back.Field i x) ≡ Some t) (is_word : value_of word ≡ Some (value.Object q))
     (put : IsPutAt h h' p i word) where
   was : HasField world x i
   was = field_in world x i t wants
@@ -40,8 +40,8 @@ module _ (world : World) (h h' : Hand) (x p i t word q : ℕ) (tied : Tied world
       words_in (Some s) = length s.words
 
   -- a field that asks for nothing is another one
-  other_field : (j : ℕ) → asks world (back.Field x j) ≡ None → j ≢ i
-  other_field j none is = none-some t (sym none ∙ ap (λ z. asks world (back.Field x z)) is ∙ wants)
+  other_field : (j : ℕ) → asks world (back.Field j x) ≡ None → j ≢ i
+  other_field j none is = none-some t (sym none ∙ ap (λ z. asks world (back.Field z x)) is ∙ wants)
 
   -- what stands at p is still the object, with one word that asks changed
   put_kept : IsKeptAt world h' x p
@@ -80,17 +80,17 @@ module _ (world : World) (h h' : Hand) (x p i t word q : ℕ) (tied : Tied world
   ]
 
   -- another slot that asks has the word that it had
-  still : (c : Back) (u r : ℕ) → asks world c ≡ Some u → c ≢ back.Field x i → FixedAt world h c r
+  still : (c : Back) (u r : ℕ) → asks world c ≡ Some u → c ≢ back.Field i x → FixedAt world h c r
       → FixedAt world h' c r
   still (back.Register n) u r asked ne f = ap (λ (g : ℕ → Option Value). g n) put.register ∙ f
-  still (back.Field y j) u r asked ne f =
+  still (back.Field j y) u r asked ne f =
       let started = field_in world y j u asked in (
         f.0,
         subst (λ l. IsAt world l y f.0) (sym put.own) f.1,
         elim (cases_eq f.0 p) [
           | inl e ↦
               let yx : y ≡ x = alone_there y started.start started.is (subst (IsAt world h.own y) e f.1) in
-              let ji : j ≢ i = λ d. ne (ap (λ z. back.Field z j) yx ∙ ap (back.Field x) d) in
+              let ji : j ≢ i = λ d. ne (ap (λ z. back.Field j z) yx ∙ ap (λ n. back.Field n x) d) in
               ap (λ z. field_of (h'.now z) j) e ∙ ap (λ z. field_of z j) now_there
               ∙ ap value_of (get_or-set_other kept.new.words i j word 0 ji)
               ∙ sym (ap (λ z. field_of z j) kept.is) ∙ ap (λ z. field_of (h.now z) j) (sym e) ∙ f.2
@@ -101,7 +101,7 @@ module _ (world : World) (h h' : Hand) (x p i t word q : ℕ) (tied : Tied world
   still (back.Wait y) u r asked ne f = f
   still back.Nothing u r asked ne f = f
 
-  put_is_written : IsWritten world h h' (back.Field x i) q
+  put_is_written : IsWritten world h h' (back.Field i x) q
   put_is_written = record {
     number = put.number;
     own = put.own;
@@ -150,7 +150,7 @@ module _ (world : World) (h h' : Hand) (x p i t word q : ℕ) (tied : Tied world
         ap (λ (f : ℕ → Option Value). f r) put.register ∙ tied.registers r (mine ∙ put.number) none;
   }
 
-  pub put_writes : IsWritten world h h' (back.Field x i) q × Tied world h'
+  pub put_writes : IsWritten world h h' (back.Field i x) q × Tied world h'
   put_writes = (put_is_written, put_keeps_tied)
 
 -- ---- a register
@@ -161,7 +161,7 @@ module _ (world : World) (h h' : Hand) (r t q : ℕ) (tied : Tied world h)
   still_set : (c : Back) (u z : ℕ) → asks world c ≡ Some u → c ≢ back.Register r → FixedAt world h c z
       → FixedAt world h' c z
   still_set (back.Register n) u z asked ne f = set.others n (λ e. ne (ap back.Register e)) ∙ f
-  still_set (back.Field y j) u z asked ne f = (
+  still_set (back.Field j y) u z asked ne f = (
     f.0,
     subst (λ l. IsAt world l y f.0) (sym set.own) f.1,
     ap (λ (g : ℕ → Option Start). field_of (g f.0) j) set.now ∙ f.2,

@@ -30,7 +30,7 @@ collected_some world (Some s) t e = at (is_collected world s) refl
 -- what a slot asks for is collected
 pub asks_collected : (world : World) (b : Back) (t : ℕ) → asks world b ≡ Some t → is_collected world t ≡ true
 asks_collected world (back.Register r) t e = (collected_some world (object_in (world.registers r)) t e).1
-asks_collected world (back.Field x i) t e =
+asks_collected world (back.Field i x) t e =
     (collected_some world (object_in (strong_value (world.image x) i)) t e).1
 asks_collected world (back.Entry line part) t e = absurd (none-some _ e)
 asks_collected world (back.Wait x) t e = absurd (none-some _ e)
@@ -74,7 +74,7 @@ strong_in world x i (Some s) b is e =
     record { start = s; is = is; below = word_in s.words i b (strong_word s i b e) }
 
 -- a field that asks is a word of an object
-pub field_in : (world : World) (x i t : ℕ) → asks world (back.Field x i) ≡ Some t → HasField world x i
+pub field_in : (world : World) (x i t : ℕ) → asks world (back.Field i x) ≡ Some t → HasField world x i
 field_in world x i t e =
     strong_in world x i (world.image x) t refl
     (collected_some world (object_in (strong_value (world.image x) i)) t e).0
@@ -94,7 +94,7 @@ words_few kind.OrderedGuard n h = omega arith
 words_few kind.Cell n h = omega arith
 
 -- so its index is small
-field_small : (world : World) (x i t : ℕ) → IsWorld world → asks world (back.Field x i) ≡ Some t
+field_small : (world : World) (x i t : ℕ) → IsWorld world → asks world (back.Field i x) ≡ Some t
     → i < 8388608
 field_small world x i t h e =
     let f = field_in world x i t e in
@@ -109,14 +109,14 @@ field_small world x i t h e =
 pub named_once : (world : World) → IsWorld world → (b c : Back) (t u : ℕ) → asks world b ≡ Some t
     → asks world c ≡ Some u → name_of b ≡ name_of c → b ≡ c
 named_once world h (back.Register r) (back.Register s) t u e f n = ap back.Register (omega (arith, n))
-named_once world h (back.Register r) (back.Field y j) t u e f n = absurd (omega (arith, n))
-named_once world h (back.Field x i) (back.Register s) t u e f n = absurd (omega (arith, n))
-named_once world h (back.Field x i) (back.Field y j) t u e f n =
+named_once world h (back.Register r) (back.Field j y) t u e f n = absurd (omega (arith, n))
+named_once world h (back.Field i x) (back.Register s) t u e f n = absurd (omega (arith, n))
+named_once world h (back.Field i x) (back.Field j y) t u e f n =
     let first : i < 8388608 = field_small world x i t h e in
     let second : j < 8388608 = field_small world y j u h f in
     let object : x ≡ y = omega (arith, n, first, second) in
     let index : i ≡ j = omega (arith, n, first, second) in
-    ap (λ z. back.Field z i) object ∙ ap (back.Field y) index
+    ap (λ z. back.Field i z) object ∙ ap (λ z. back.Field z y) index
 named_once world h (back.Entry line part) c t u e f n = absurd (none-some _ e)
 named_once world h (back.Wait x) c t u e f n = absurd (none-some _ e)
 named_once world h back.Nothing c t u e f n = absurd (none-some _ e)

@@ -58,7 +58,7 @@ module _ (world : World) (w : Setting) (setting : IsSettingOf world w) where
 
   root_opened : (b : Back) (t : ℕ) → asks world b ≡ Some t → IsRoot world b → IsOpened b
   root_opened (back.Register r) t e root = refl
-  root_opened (back.Field x i) t e root =
+  root_opened (back.Field i x) t e root =
       let f = field_in world x i t e in
       let old = setting.older x ∙ staying_older world x f.start f.is root in
       or_left (has w.older x) (is_swept (alone empty) x) old
@@ -68,7 +68,7 @@ module _ (world : World) (w : Setting) (setting : IsSettingOf world w) where
 
   opened_root : (b : Back) (t : ℕ) → asks world b ≡ Some t → IsOpened b → IsRoot world b
   opened_root (back.Register r) t e opened = tt
-  opened_root (back.Field x i) t e opened =
+  opened_root (back.Field i x) t e opened =
       elim (or_cases (has w.older x) (is_swept (alone empty) x) opened) [
         | inl old ↦ older_stays world x (sym (setting.older x) ∙ old)
         | inr swept ↦ absurd (false≢true swept)
@@ -168,7 +168,7 @@ module _ (world : World) (w : Setting) (setting : IsSettingOf world w) where
   -- the object of a root has its place: an older one stays
   root_placed : (h : Hand) (b : Back) → IsRoot world b → IsPlaced world h b
   root_placed h (back.Register r) root = tt
-  root_placed h (back.Field x i) root = (x, inl (root, refl))
+  root_placed h (back.Field i x) root = (x, inl (root, refl))
   root_placed h (back.Entry line part) root = tt
   root_placed h (back.Wait x) root = tt
   root_placed h back.Nothing root = tt
@@ -208,7 +208,7 @@ module _ (world : World) (w : Setting) (setting : IsSettingOf world w) where
     begun = λ t c x i asked same mine.
         let b = mail_begun h begins t c in
         let names = ap (λ (u : Standing). u.slot.name) b.is ∙ ap (λ (a : Slot). a.name) same in
-        let field = back.Field x i in
+        let field = back.Field i x in
         let same_back = named_once world is b.where_to field b.target t.slot.target b.wants asked names in
         inl (subst (IsRoot world) same_back b.root);
   }

@@ -92,17 +92,17 @@ module _ (world : World) (w : Setting) (h : Hand) (p : Part) (rest : List (ℕ �
   -- ---- its slots are new
 
   -- what has the name of a field of x is that field
-  field_is : (b : Back) (t i u : ℕ) → asks world b ≡ Some t → asks world (back.Field x i) ≡ Some u
-      → (slot_at world b Keep t).name ≡ (slot_at world (back.Field x i) Keep u).name → b ≡ back.Field x i
-  field_is b t i u = named_once world is_world b (back.Field x i) t u
+  field_is : (b : Back) (t i u : ℕ) → asks world b ≡ Some t → asks world (back.Field i x) ≡ Some u
+      → (slot_at world b Keep t).name ≡ (slot_at world (back.Field i x) Keep u).name → b ≡ back.Field i x
+  field_is b t i u = named_once world is_world b (back.Field i x) t u
 
-  was_not : (u : Standing) → Contains p.here u → (i t : ℕ) → asks world (back.Field x i) ≡ Some t
-      → IsTrue (same_slot u.slot (slot_at world (back.Field x i) Keep t)) → ⊥
+  was_not : (u : Standing) → Contains p.here u → (i t : ℕ) → asks world (back.Field i x) ≡ Some t
+      → IsTrue (same_slot u.slot (slot_at world (back.Field i x) Keep t)) → ⊥
   was_not u c i t wants same =
       let k = holds.known u c in
-      let field : k.where_to ≡ back.Field x i = field_is k.where_to u.slot.target i t k.wants wants
+      let field : k.where_to ≡ back.Field i x = field_is k.where_to u.slot.target i t k.wants wants
       (sym (ap (λ (a : Slot). a.name) k.slot)
-      ∙ same_slot_name u.slot (slot_at world (back.Field x i) Keep t) same) in
+      ∙ same_slot_name u.slot (slot_at world (back.Field i x) Keep t) same) in
       elim (holds.begun u c x i (ap (asks world) (sym field) ∙ k.wants)
       (k.slot ∙ ap (λ z. slot_at world z Keep u.slot.target) field) mine) [
         | inl old ↦ both_ways (is_collected world x) old collected
@@ -116,21 +116,21 @@ module _ (world : World) (w : Setting) (h : Hand) (p : Part) (rest : List (ℕ �
       unswept_fresh w p x u.slot (core_collects world w setting x collected) unswept_before (λ d known same.
       let f = due_from world w setting d known in
       let named : (slot_at world f.0 Keep f.1).name
-      ≡ (slot_at world (back.Field x r.index) Keep r.target).name =
+      ≡ (slot_at world (back.Field r.index x) Keep r.target).name =
       sym (ap (λ (e : Due). e.slot.name) f.3) ∙ ap (λ (a : Slot). a.name) same
       ∙ ap (λ (z : Standing). z.slot.name) r.is in
       ap (λ (e : Due). e.member) f.3 ∙ ap member_of (field_is f.0 f.1 r.index r.target f.2 r.wants named))
 
-  due_now : (i t : ℕ) → asks world (back.Field x i) ≡ Some t
-      → IsTrue (is_due w (alone (swept_here p x)) (due_of world (back.Field x i) t))
+  due_now : (i t : ℕ) → asks world (back.Field i x) ≡ Some t
+      → IsTrue (is_due w (alone (swept_here p x)) (due_of world (back.Field i x) t))
   due_now i t wants =
       and_from (is_open w t && is_opened w (alone (swept_here p x)) (Some x)) true
       (and_from (is_open w t) (is_opened w (alone (swept_here p x)) (Some x))
-      (core_collects world w setting t (asks_collected world (back.Field x i) t wants))
+      (core_collects world w setting t (asks_collected world (back.Field i x) t wants))
       (or_right (has w.older x) (is_swept (alone (swept_here p x)) x) swept_now))
       refl
 
-  below : (i t : ℕ) → asks world (back.Field x i) ≡ Some t → i < length s.words
+  below : (i t : ℕ) → asks world (back.Field i x) ≡ Some t → i < length s.words
   below i t wants =
       let f = field_in world x i t wants in
       let same : f.start ≡ s = same_Some _ _ (sym f.is ∙ was) in
@@ -146,14 +146,14 @@ module _ (world : World) (w : Setting) (h : Hand) (p : Part) (rest : List (ℕ �
       → Contains (map (λ z. z.slot) news) (slot_at world b Keep t)
   newly (back.Register r) t e before after =
       absurd (both_ways (is_due w (alone p) (due_of world (back.Register r) t)) before after)
-  newly (back.Field y i) t e before after = elim (cases_eq y x) [
+  newly (back.Field i y) t e before after = elim (cases_eq y x) [
     | inl same ↦
-        let wants : asks world (back.Field x i) ≡ Some t =
-        ap (λ z. asks world (back.Field z i)) (sym same) ∙ e in
-        subst (λ z. Contains (map (λ z. z.slot) news) (slot_at world (back.Field z i) Keep t)) (sym same)
-        (some_map (λ z. z.slot) news (begun w (slot_at world (back.Field x i) Keep t))
+        let wants : asks world (back.Field i x) ≡ Some t =
+        ap (λ z. asks world (back.Field i z)) (sym same) ∙ e in
+        subst (λ z. Contains (map (λ z. z.slot) news) (slot_at world (back.Field i z) Keep t)) (sym same)
+        (some_map (λ z. z.slot) news (begun w (slot_at world (back.Field i x) Keep t))
         (some_news world w x 0 (length s.words) i t (omega arith) (omega (arith, below i t wants)) wants))
-    | inr other ↦ absurd (both_ways (is_due w (alone p) (due_of world (back.Field y i) t)) before
+    | inr other ↦ absurd (both_ways (is_due w (alone p) (due_of world (back.Field i y) t)) before
         (ap (λ z. is_open w t && (has w.older y || z) && true) (swept_same y other) ∙ after))
   ]
   newly (back.Entry line part) t e before after = absurd (none-some _ e)
@@ -164,8 +164,8 @@ module _ (world : World) (w : Setting) (h : Hand) (p : Part) (rest : List (ℕ �
   makes = record {
     sound = λ u c.
         let r = news_some world w x 0 (length s.words) u c in (
-          due_of world (back.Field x r.index) r.target,
-          setting.to (back.Field x r.index) r.target r.wants,
+          due_of world (back.Field r.index x) r.target,
+          setting.to (back.Field r.index x) r.target r.wants,
           sym r.is,
           mine,
           due_now r.index r.target r.wants,
@@ -187,7 +187,7 @@ module _ (world : World) (w : Setting) (h : Hand) (p : Part) (rest : List (ℕ �
 
   still_there : (c : Back) (t : ℕ) → FixedAt world h c t → FixedAt world (with_unswept h rest) c t
   still_there (back.Register r) t f = f
-  still_there (back.Field y i) t f = f
+  still_there (back.Field i y) t f = f
   still_there (back.Entry line part) t f = f
   still_there (back.Wait y) t f = f
   still_there back.Nothing t f = f
@@ -206,7 +206,7 @@ module _ (world : World) (w : Setting) (h : Hand) (p : Part) (rest : List (ℕ �
   new_known u c =
       let r = news_some world w x 0 (length s.words) u c in
       subst (λ (z : Standing). IsKnown world z.slot) (sym r.is)
-      (record { where_to = back.Field x r.index; wants = r.wants; slot = refl })
+      (record { where_to = back.Field r.index x; wants = r.wants; slot = refl })
 
   -- what was swept still is, and x is so now
   still_swept : (y : ℕ) → IsSwept h y → IsSwept (with_unswept h rest) y
@@ -216,12 +216,12 @@ module _ (world : World) (w : Setting) (h : Hand) (p : Part) (rest : List (ℕ �
   x_swept = ((q, in_own), λ r c. left_differ x (some_map object_of rest (x, r) c) refl)
 
   -- a field that a new slot is of is one of x
-  new_begun : (u : Standing) → Contains news u → (y j : ℕ) → asks world (back.Field y j) ≡ Some u.slot.target
-      → u.slot ≡ slot_at world (back.Field y j) Keep u.slot.target → IsSwept (with_unswept h rest) y
+  new_begun : (u : Standing) → Contains news u → (y j : ℕ) → asks world (back.Field j y) ≡ Some u.slot.target
+      → u.slot ≡ slot_at world (back.Field j y) Keep u.slot.target → IsSwept (with_unswept h rest) y
   new_begun u c y j wants is_slot =
       let r = news_some world w x 0 (length s.words) u c in
-      let field : back.Field y j ≡ back.Field x r.index =
-      field_is (back.Field y j) u.slot.target r.index r.target wants r.wants
+      let field : back.Field j y ≡ back.Field r.index x =
+      field_is (back.Field j y) u.slot.target r.index r.target wants r.wants
       (sym (ap (λ (a : Slot). a.name) is_slot) ∙ ap (λ (z : Standing). z.slot.name) r.is) in
       subst (IsSwept (with_unswept h rest)) (sym (same_Some _ _ (ap member_of field))) x_swept
 

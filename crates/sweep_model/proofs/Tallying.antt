@@ -54,21 +54,21 @@ module _ (n : ℕ) where
 
   -- so is that of word i of an object
   word_named : (x i index t : ℕ) (words : List ℕ) → object_in (value_of (get_or words i 0)) ≡ Some t
-      → i < length words → Contains (names_of_words n x index words) (keep (back.Field x (index + i)) t)
+      → i < length words → Contains (names_of_words n x index words) (keep (back.Field (index + i) x) t)
   word_named x i index t [] e l = absurd (omega (arith, l))
   word_named x zero index t (word ∷ words) e l =
-      let first : List Slot = name_if n (back.Field x index) (object_in (value_of word)) in
+      let first : List Slot = name_if n (back.Field index x) (object_in (value_of word)) in
       let field : index ≡ index + 0 = omega arith in
-      let here = if_named (back.Field x index) (object_in (value_of word)) t e in
-      Contains-append_left first (names_of_words n x (index + 1) words) (keep (back.Field x (index + 0)) t)
-      (subst (λ z. Contains first (keep (back.Field x z) t)) field here)
+      let here = if_named (back.Field index x) (object_in (value_of word)) t e in
+      Contains-append_left first (names_of_words n x (index + 1) words) (keep (back.Field (index + 0) x) t)
+      (subst (λ z. Contains first (keep (back.Field z x) t)) field here)
   word_named x (suc i) index t (word ∷ words) e l =
       let later : List Slot = names_of_words n x (index + 1) words in
       let field : index + 1 + i ≡ index + suc i = omega arith in
       let there = word_named x i (index + 1) t words e (omega (arith, l)) in
-      Contains-append_right (name_if n (back.Field x index) (object_in (value_of word))) later
-      (keep (back.Field x (index + suc i)) t)
-      (subst (λ z. Contains later (keep (back.Field x z) t)) field there)
+      Contains-append_right (name_if n (back.Field index x) (object_in (value_of word))) later
+      (keep (back.Field (index + suc i) x) t)
+      (subst (λ z. Contains later (keep (back.Field z x) t)) field there)
 
   -- what is counted of a start is counted
   start_named : (x : ℕ) (s : Start) (starts : List (ℕ × Start)) (a : Slot) → Contains starts (x, s)
@@ -118,11 +118,11 @@ module _ (world : World) (starts : List (ℕ × Start)) (registers : List (ℕ �
       held (Some v) is h =
           Contains-append_right (names_of_starts n starts) (names_of_registers n registers)
           (keep n (back.Register r) t) (register_named n r t v registers (are.has_registers r v is) h)
-  slot_named (back.Field x i) t e = found (world.image x) refl
+  slot_named (back.Field i x) t e = found (world.image x) refl
       (collected_some world (object_in (strong_value (world.image x) i)) t e).0
     where
       found : (o : Option Start) → world.image x ≡ o → object_in (strong_value o i) ≡ Some t
-          → IsCounted (back.Field x i) t
+          → IsCounted (back.Field i x) t
       found None is h = absurd (none-some t h)
       found (Some s) is h =
           let now = are.has_starts x s is in
@@ -132,8 +132,8 @@ module _ (world : World) (starts : List (ℕ × Start)) (registers : List (ℕ �
           let there = word_named n x i 0 t words word (word_in words i t word) in
           let index : 0 + i ≡ i = omega arith in
           Contains-append_left (names_of_starts n starts) (names_of_registers n registers)
-          (keep n (back.Field x i) t) (start_named n x now.0 starts (keep n (back.Field x i) t) now.1
-          (subst (λ z. Contains (names_of_words n x 0 words) (keep n (back.Field x z) t)) index there))
+          (keep n (back.Field i x) t) (start_named n x now.0 starts (keep n (back.Field i x) t) now.1
+          (subst (λ z. Contains (names_of_words n x 0 words) (keep n (back.Field z x) t)) index there))
   slot_named (back.Entry line part) t e = absurd (none-some t e)
   slot_named (back.Wait x) t e = absurd (none-some t e)
   slot_named back.Nothing t e = absurd (none-some t e)

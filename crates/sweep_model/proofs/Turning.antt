@@ -22,8 +22,8 @@ use Rattle.sweep_model.proofs.Counting.{others_differ}
 -- the slots of an object of its own come with its sweep
 abbrev pub ComesWithSweep : World → Hand → Standing → Type 0
 ComesWithSweep world h t =
-    (x i : ℕ) → asks world (back.Field x i) ≡ Some t.slot.target
-    → t.slot ≡ slot_at world (back.Field x i) Keep t.slot.target → owner world.sweepers x ≡ h.number
+    (x i : ℕ) → asks world (back.Field i x) ≡ Some t.slot.target
+    → t.slot ≡ slot_at world (back.Field i x) Keep t.slot.target → owner world.sweepers x ≡ h.number
     → (is_collected world x ≡ false) ⊎ IsSwept h x
 
 -- A part in which one slot is at the stage of `now`, those of `rest` are as they were, and all others are fixed.

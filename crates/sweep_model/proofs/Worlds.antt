@@ -100,7 +100,7 @@ registers_of : (world : World) → IsListed world → List Back
 registers_of world listed = below back.Register listed.registers
 
 fields_of : World → ℕ → List Back
-fields_of world x = below (back.Field x) (words_in (world.image x))
+fields_of world x = below (λ i. back.Field i x) (words_in (world.image x))
 
 slots_of : (world : World) → IsListed world → List Back
 slots_of world listed = registers_of world listed ++ flat_map (fields_of world) listed.starts
@@ -116,12 +116,12 @@ slot_in world listed (back.Register r) t e = elim (cases_lt r listed.registers) 
       let held = (collected_some world (object_in (world.registers r)) t e).0 in
       absurd (none-some t (sym (ap object_in (listed.none r past)) ∙ held))
 ]
-slot_in world listed (back.Field x i) t e =
+slot_in world listed (back.Field i x) t e =
     let f = field_in world x i t e in
     let inside : i < words_in (world.image x) = subst (λ o. i < words_in o) (sym f.is) f.below in
     Contains-append_right (registers_of world listed) (flat_map (fields_of world) listed.starts)
-    (back.Field x i) (some_flat (fields_of world) listed.starts x (back.Field x i) (listed.all x f.start f.is)
-    (below_some (back.Field x) (words_in (world.image x)) i inside))
+    (back.Field i x) (some_flat (fields_of world) listed.starts x (back.Field i x) (listed.all x f.start f.is)
+    (below_some (λ i. back.Field i x) (words_in (world.image x)) i inside))
 slot_in world listed (back.Entry line part) t e = absurd (none-some t e)
 slot_in world listed (back.Wait x) t e = absurd (none-some t e)
 slot_in world listed back.Nothing t e = absurd (none-some t e)

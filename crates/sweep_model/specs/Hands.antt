@@ -54,7 +54,7 @@ field_of (Some x) i = value_of (slice_index x.words i)
 -- the slot's word has the place q
 abbrev pub FixedAt : World → Hand → Back → ℕ → Type 0
 FixedAt world h (back.Register r) q = h.register r ≡ Some (value.Object q)
-FixedAt world h (back.Field x i) q =
+FixedAt world h (back.Field i x) q =
     (p : ℕ) × IsAt world h.own x p × (field_of (h.now p) i ≡ Some (value.Object q))
 FixedAt world h _ q = ⊥
 
@@ -71,7 +71,7 @@ pub record IsKeptAt (world : World) (h : Hand) (x p : ℕ) : Type 0 where
   pub birth : new.birth ≡ old.birth
   pub generation : new.generation ≡ goes_to world.targets old.generation
   pub words : length new.words ≡ length old.words
-  pub plain : (i : ℕ) → asks world (back.Field x i) ≡ None → slice_index new.words i ≡ slice_index old.words i
+  pub plain : (i : ℕ) → asks world (back.Field i x) ≡ None → slice_index new.words i ≡ slice_index old.words i
 
 pub record Tied (world : World) (h : Hand) : Type 0 where
   -- the collected objects can still be read at their old places

@@ -84,8 +84,8 @@ pub record Holds (world : World) (w : Setting) (h : Hand) (todo : List Standing)
   pub apart : (t u : Standing) → Contains p.here t → Contains p.here u → IsTrue (same_slot t.slot u.slot) → t ≡ u
   pub known : (t : Standing) → Contains p.here t → IsKnown world t.slot
   -- the slots of an object of its own come with its sweep
-  pub begun : (t : Standing) → Contains p.here t → (x i : ℕ) → asks world (back.Field x i) ≡ Some t.slot.target
-      → t.slot ≡ slot_at world (back.Field x i) Keep t.slot.target → owner world.sweepers x ≡ h.number
+  pub begun : (t : Standing) → Contains p.here t → (x i : ℕ) → asks world (back.Field i x) ≡ Some t.slot.target
+      → t.slot ≡ slot_at world (back.Field i x) Keep t.slot.target → owner world.sweepers x ≡ h.number
       → (is_collected world x ≡ false) ⊎ IsSwept h x
 
 -- What is done leads from the one to the other, by events of this sweeper, from each part that it stood for.
@@ -98,9 +98,9 @@ Goes world w h todo h' todo' =
 
 abbrev pub news_at : World → Setting → ℕ → ℕ → Option ℕ → List Standing
 news_at world w x i None = []
-news_at world w x i (Some t) = begun w (slot_at world (back.Field x i) Keep t) ∷ []
+news_at world w x i (Some t) = begun w (slot_at world (back.Field i x) Keep t) ∷ []
 
 abbrev pub news_from : World → Setting → ℕ → ℕ → ℕ → List Standing
 news_from world w x i zero = []
 news_from world w x i (suc n) =
-    news_at world w x i (asks world (back.Field x i)) ++ news_from world w x (i + 1) n
+    news_at world w x i (asks world (back.Field i x)) ++ news_from world w x (i + 1) n

@@ -37,8 +37,8 @@ CopyKeepsTied =
 abbrev pub PutWrites : Type 0
 PutWrites =
     (world : World) (h h' : Hand) (x p i t word q : ℕ) → Tied world h → owner world.sweepers x ≡ h.number
-    → IsAt world h.own x p → asks world (back.Field x i) ≡ Some t → value_of word ≡ Some (value.Object q)
-    → IsPutAt h h' p i word → IsWritten world h h' (back.Field x i) q × Tied world h'
+    → IsAt world h.own x p → asks world (back.Field i x) ≡ Some t → value_of word ≡ Some (value.Object q)
+    → IsPutAt h h' p i word → IsWritten world h h' (back.Field i x) q × Tied world h'
 
 -- so does a place set in a register that asks
 abbrev pub SetWrites : Type 0

@@ -14,12 +14,12 @@ use Rattle.sweep_model.specs.World.{World, asks, is_older}
 -- Names differ: those of registers are multiples of 4, those of fields one more. No object has 2^23 fields.
 abbrev pub name_of : Back → ℕ
 name_of (back.Register r) = 4 * r
-name_of (back.Field x i) = 4 * (x * 8388608 + i) + 1
+name_of (back.Field i x) = 4 * (x * 8388608 + i) + 1
 name_of _ = 2
 
 -- the object whose sweep makes the slot
 abbrev pub member_of : Back → Option ℕ
-member_of (back.Field x i) = Some x
+member_of (back.Field i x) = Some x
 member_of _ = None
 
 -- the slot among so many sweepers, and in a world

@@ -45,7 +45,7 @@ name_if sweepers b (Some t) = slot_among sweepers b Keep t ∷ []
 abbrev pub names_of_words : ℕ → ℕ → ℕ → List ℕ → List Slot
 names_of_words sweepers x index [] = []
 names_of_words sweepers x index (word ∷ words) =
-    name_if sweepers (back.Field x index) (object_in (value_of word))
+    name_if sweepers (back.Field index x) (object_in (value_of word))
     ++ names_of_words sweepers x (index + 1) words
 
 abbrev pub names_of_starts : ℕ → List (ℕ × Start) → List Slot
@@ -68,7 +68,7 @@ pub record AreOfWorld (world : World) (starts : List (ℕ × Start))
     (registers : List (ℕ × Value)) : Type 0 where
   pub has_starts : (x : ℕ) (s : Start) → world.image x ≡ Some s
       → (now : Start) × Contains starts (x, now)
-      × ((i t : ℕ) → asks world (back.Field x i) ≡ Some t
+      × ((i t : ℕ) → asks world (back.Field i x) ≡ Some t
       → slice_index now.words i ≡ slice_index s.words i)
   pub has_registers : (r : ℕ) (v : Value) → world.registers r ≡ Some v → Contains registers (r, v)
 

@@ -26,7 +26,7 @@ use Rattle.sweep_model.specs.Holding.{Goes, Holds, count_of, mail_of}
 
 -- the object of the slot has its place already
 abbrev pub IsPlaced : World → Hand → Back → Type 0
-IsPlaced world h (back.Field x i) = (p : ℕ) × IsAt world h.own x p
+IsPlaced world h (back.Field i x) = (p : ℕ) × IsAt world h.own x p
 IsPlaced world h _ = Unit {0}
 
 -- A message that may come to the sweeper: another one asks for an object of its own, or it does itself; or it is
@@ -122,7 +122,7 @@ pub record AreDone (world : World) (w : Setting) (hands : ℕ → Hand) (s : Sta
       → (p : ℕ) × Contains (hands (owner world.sweepers x)).own (x, p)
   pub alone : (k x p : ℕ) → k < world.sweepers → Contains (hands k).own (x, p)
       → (is_collected world x ≡ true) × IsTrue (has (least (rules_of w)) x)
-  pub fields : (x p i t : ℕ) → IsAt world (hands (owner world.sweepers x)).own x p → asks world (back.Field x i) ≡ Some t
+  pub fields : (x p i t : ℕ) → IsAt world (hands (owner world.sweepers x)).own x p → asks world (back.Field i x) ≡ Some t
       → (q : ℕ) × Contains (hands (owner world.sweepers t)).own (t, q)
       × (field_of ((hands (owner world.sweepers x)).now p) i ≡ Some (value.Object q))
   pub registers : (r t : ℕ) → asks world (back.Register r) ≡ Some t
@@ -139,7 +139,7 @@ QuietIsDone =
 -- a slot that is there from the start: of a register, or of a field of an older object
 abbrev pub IsRoot : World → Back → Type 0
 IsRoot world (back.Register r) = Unit {0}
-IsRoot world (back.Field x i) = is_collected world x ≡ false
+IsRoot world (back.Field i x) = is_collected world x ≡ false
 IsRoot world _ = ⊥
 
 -- the message asks for the object of a root that the sweeper holds

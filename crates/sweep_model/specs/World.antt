@@ -73,7 +73,7 @@ if_collected world (Some t) = if is_collected world t then Some t else None
 -- the collected object that is wanted at a slot: what the register held, or what the strong field had
 abbrev pub asks : World → Back → Option ℕ
 asks world (back.Register r) = if_collected world (object_in (world.registers r))
-asks world (back.Field x i) = if_collected world (object_in (strong_value (world.image x) i))
+asks world (back.Field i x) = if_collected world (object_in (strong_value (world.image x) i))
 asks world _ = None
 
 -- There are 1 to 64 sweepers, each start has an address and the shape of its kind, and what a strong field or a

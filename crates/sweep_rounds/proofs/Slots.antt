@@ -49,7 +49,7 @@ starts_of (v ∷ vs) = starts_of_territories v.share.territories ++ starts_of vs
 -- the first n fields of x
 fields_of : ℕ → ℕ → List Back
 fields_of x zero = []
-fields_of x (suc n) = back.Field x n ∷ fields_of x n
+fields_of x (suc n) = back.Field n x ∷ fields_of x n
 
 fields_of_starts : List (ℕ × Start) → List Back
 fields_of_starts [] = []
@@ -95,26 +95,26 @@ in_sweepers (v ∷ vs) d (suc k) x s b c =
     Contains-append_right (starts_of_territories v.share.territories) (starts_of vs) (x, s)
     (in_sweepers vs d k x s (omega (arith, b)) c)
 
-in_fields : (x n i : ℕ) → i < n → Contains (fields_of x n) (back.Field x i)
+in_fields : (x n i : ℕ) → i < n → Contains (fields_of x n) (back.Field i x)
 unfolding fields_of
 in_fields x zero i b = absurd (omega (arith, b))
 in_fields x (suc n) i b = elim (cases_lt i n) [
-  | inl low ↦ contains_there (back.Field x n) (fields_of x n) (back.Field x i) (in_fields x n i low)
+  | inl low ↦ contains_there (back.Field n x) (fields_of x n) (back.Field i x) (in_fields x n i low)
   | inr far ↦
       let same : n ≡ i = omega (arith, b, far) in
-      subst (λ j. Contains (back.Field x n ∷ fields_of x n) (back.Field x j)) same
-      (contains_here (back.Field x n) (fields_of x n))
+      subst (λ j. Contains (back.Field n x ∷ fields_of x n) (back.Field j x)) same
+      (contains_here (back.Field n x) (fields_of x n))
 ]
 
 in_fields_of_starts : (es : List (ℕ × Start)) (x i : ℕ) (s : Start) → Contains es (x, s) → i < length s.words
-    → Contains (fields_of_starts es) (back.Field x i)
+    → Contains (fields_of_starts es) (back.Field i x)
 unfolding fields_of_starts
 in_fields_of_starts [] x i s c b = absurd (contains_none (x, s) c)
 in_fields_of_starts (e ∷ es) x i s c b = elim (contains_cases e es (x, s) c) [
-  | inl is ↦ Contains-append_left (fields_of e.0 (length e.1.words)) (fields_of_starts es) (back.Field x i)
-      (subst (λ (z : ℕ × Start). Contains (fields_of z.0 (length z.1.words)) (back.Field x i)) (sym is)
+  | inl is ↦ Contains-append_left (fields_of e.0 (length e.1.words)) (fields_of_starts es) (back.Field i x)
+      (subst (λ (z : ℕ × Start). Contains (fields_of z.0 (length z.1.words)) (back.Field i x)) (sym is)
       (in_fields x (length s.words) i b))
-  | inr more ↦ Contains-append_right (fields_of e.0 (length e.1.words)) (fields_of_starts es) (back.Field x i)
+  | inr more ↦ Contains-append_right (fields_of e.0 (length e.1.words)) (fields_of_starts es) (back.Field i x)
       (in_fields_of_starts es x i s more b)
 ]
 
@@ -206,11 +206,11 @@ module _ (world : World) (w : Setting) (vs : List SweeperView) (d : SweeperView)
   -- the slot of one that asks is among them
   back_there : (b : Back) (u : ℕ) → asks world b ≡ Some u
       → Contains (fields_of_starts (starts_of vs) ++ registers_of_all vs) b
-  back_there (back.Field x i) u wants =
+  back_there (back.Field i x) u wants =
       let f = field_in world x i u wants in
       let there = start_there x f.start f.is in
       let few : length there.0.words ≡ length f.start.words = there.2 in
-      Contains-append_left (fields_of_starts (starts_of vs)) (registers_of_all vs) (back.Field x i)
+      Contains-append_left (fields_of_starts (starts_of vs)) (registers_of_all vs) (back.Field i x)
       (in_fields_of_starts (starts_of vs) x i there.0 there.1 (omega (arith, few, f.below)))
   back_there (back.Register r) u wants =
       let k : ℕ = holder_of world.sweepers (back.Register r) in

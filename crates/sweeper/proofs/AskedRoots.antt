@@ -63,7 +63,7 @@ register_past s m m' d r i a none =
 
 -- ---- fields
 
-pub same_field : (x y i j : ℕ) → back.Field x i ≡ back.Field y j → (x ≡ y) × (i ≡ j)
+pub same_field : (x y i j : ℕ) → back.Field i x ≡ back.Field j y → (x ≡ y) × (i ≡ j)
 same_field x y i j e = (cc, cc)
 
 pub aside_told : (d : DirectoryView) (o : Option ℕ) (t : ℕ) → if_aside d o ≡ Some t → (o ≡ Some t)
@@ -78,10 +78,10 @@ aside_told d (Some u) t e = at (from_at d u) refl e
 
 -- what a field asks for is asked of its owner
 pub field_one : (s : ShareView) (m m' : Mail) (d : DirectoryView) (t : TerritoryView) (x i target : ℕ)
-    → asked_in d (get t.starts x) i ≡ Some target → AreAsked s m m' (AsksFor d (back.Field x i) target)
+    → asked_in d (get t.starts x) i ≡ Some target → AreAsked s m m' (AsksFor d (back.Field i x) target)
     → AreAsked s m m' (AsksAt d t x i)
 field_one s m m' d t x i target is asked =
-    asked_as s m m' (AsksFor d (back.Field x i) target) (AsksAt d t x i) asked
+    asked_as s m m' (AsksFor d (back.Field i x) target) (AsksAt d t x i) asked
     (λ b u w. (w.0, is ∙ ap Some (sym w.1)))
     (λ b u w. (w.0, same_Some _ _ (sym w.1 ∙ is), (aside_told d (object_in (strong_value (get t.starts x) i)) u w.1).1))
 
@@ -127,7 +127,7 @@ module _ (s : ShareView) (m m' : Mail) (d : DirectoryView) (t : TerritoryView) (
   pub field_next : (m'' : Mail) (from i target : ℕ) → first ≤ from → from ≤ i → i < end
       → AreAsked s m m' (AsksOfObject d t x from) → AskNothingOld d t x from i → card_byte t x i ≤ d.targets.cg
       → asked_by d (slice_index (words_of (get t.starts x)) i) ≡ Some target
-      → AreAsked s m' m'' (AsksFor d (back.Field x i) target) → AreAsked s m m'' (AsksOfObject d t x (i + 1))
+      → AreAsked s m' m'' (AsksFor d (back.Field i x) target) → AreAsked s m m'' (AsksOfObject d t x (i + 1))
   field_next m'' from i target a low high before none marked is asked =
       field_asked s m m' m'' d t x i
       (fields_past s m m' d t x from i low before (words_none from i a (omega (arith, high)) none)) marked

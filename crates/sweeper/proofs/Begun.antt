@@ -119,7 +119,7 @@ module _ (world : World) (number : ℕ) (d : DirectoryView) (territories : List 
 
   placed : (b : Slot) → IsRoot world b → IsPlaced world (hand_of v) b
   placed (back.Register r) h = tt
-  placed (back.Field x i) h = (x, inl (h, refl))
+  placed (back.Field i x) h = (x, inl (h, refl))
   placed (back.Entry line part) h = tt
   placed (back.Wait x) h = tt
   placed back.Nothing h = tt
@@ -295,7 +295,7 @@ module _ (world : World) (number : ℕ) (d : DirectoryView) (territories : List 
 
 -- ---- as it is made
 
-same_slot : (r x i : ℕ) → back.Register r ≡ back.Field x i → ⊥
+same_slot : (r x i : ℕ) → back.Register r ≡ back.Field i x → ⊥
 same_slot r x i e = cc
 
 -- all that was asked for, of registers and of older objects
@@ -316,7 +316,7 @@ module _ (world : World) (number : ℕ) (d : DirectoryView) (territories : List 
       ⊎ AsksOfOldsOfAll d (first_share number d territories) (length territories) b t
   either (back.Register r) t w = inl (root_register world number d territories items good begins share are r
       t w)
-  either (back.Field x i) t w = inr (root_field world number d territories items good begins share told x i
+  either (back.Field i x) t w = inr (root_field world number d territories items good begins share told x i
       t w)
   either (back.Entry line part) t w = absurd (none-some t w.wants)
   either (back.Wait x) t w = absurd (none-some t w.wants)

@@ -78,9 +78,9 @@ own_is s v t b e is h = subst (λ (z : SweeperView). owner z.share.sweepers t �
 pub foreign_done : (s v : SweeperView) (x p i t : ℕ) (b : Bool) (outbox : List Message) → s ≡ v
     → asked_in v.places.directory (start_in v.share x) i ≡ Some t → b ≡ false
     → (IsTrue b → owner s.share.sweepers t ≡ s.share.number) × (owner s.share.sweepers t ≡ s.share.number → IsTrue b)
-    → outbox ≡ s.outbox ++ message.Forward t (back.Field x i) ∷ []
+    → outbox ≡ s.outbox ++ message.Forward t (back.Field i x) ∷ []
     → FieldDone v (record s { outbox = outbox }) x p i
 foreign_done s v x p i t b outbox e asked is own sent =
     IsForeign t asked
     (λ o. false≢true (sym is ∙ own.1 (subst (λ (z : SweeperView). owner z.share.sweepers t ≡ z.share.number) (sym e) o)))
-    (ap (λ l. record s { outbox = l }) sent ∙ ap (λ (z : SweeperView). sends z (message.Forward t (back.Field x i))) e)
+    (ap (λ l. record s { outbox = l }) sent ∙ ap (λ (z : SweeperView). sends z (message.Forward t (back.Field i x))) e)

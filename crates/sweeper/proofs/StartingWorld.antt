@@ -237,8 +237,8 @@ module _ (world : World) (number : ℕ) (d : DirectoryView) (territories : List 
 
   pub root_field : (told : (i : ℕ) → i < length territories → AreTold (territory_at s i) d.targets.cg)
       (x i t : ℕ)
-      → AsksAsRoot world number (back.Field x i) t
-      → AsksOfOldsOfAll d s (length territories) (back.Field x i) t
+      → AsksAsRoot world number (back.Field i x) t
+      → AsksOfOldsOfAll d s (length territories) (back.Field i x) t
   root_field told x i t w =
       let f = field_in world x i t w.wants in
       let n : ℕ = sweeper_count d in

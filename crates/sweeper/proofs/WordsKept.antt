@@ -66,7 +66,7 @@ copied_word : (old new : SweeperView) (t q : ℕ) (b : Slot) → CanKeep old t �
     → HasWord new b
 copied_word old new t q (back.Register r) can c word =
     subst (λ (f : ℕ → Option Value). IsSome (f r)) (sym c.copied.register) word
-copied_word old new t q (back.Field x i) can c word = field_kept old new t q x i can c word
+copied_word old new t q (back.Field i x) can c word = field_kept old new t q x i can c word
 copied_word old new t q (back.Entry line part) can c word = word
 copied_word old new t q (back.Wait x) can c word = word
 copied_word old new t q back.Nothing can c word = word

@@ -125,7 +125,7 @@ popped_may v m ms is ready =
 -- somebody holds a slot that asks
 asks_recipient : (world : World) (b : Slot) (t q : ℕ) → asks world b ≡ Some t → HasRecipient (message.Moved b q)
 asks_recipient world (back.Register r) t q e = tt
-asks_recipient world (back.Field x i) t q e = tt
+asks_recipient world (back.Field i x) t q e = tt
 asks_recipient world (back.Entry line part) t q e = tt
 asks_recipient world (back.Wait x) t q e = tt
 asks_recipient world back.Nothing t q e = absurd (none-some t e)

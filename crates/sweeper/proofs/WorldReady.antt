@@ -31,7 +31,7 @@ at_on world own own' grows x p (inl old) = inl old
 at_on world own own' grows x p (inr c) = inr (grows x p c)
 
 placed_on : (world : World) (h h' : Hand) → Grows h.own h'.own → (b : Slot) → IsPlaced world h b → IsPlaced world h' b
-placed_on world h h' grows (back.Field x i) p = (p.0, at_on world h.own h'.own grows x p.0 p.1)
+placed_on world h h' grows (back.Field i x) p = (p.0, at_on world h.own h'.own grows x p.0 p.1)
 placed_on world h h' grows (back.Register r) p = p
 placed_on world h h' grows (back.Entry line part) p = p
 placed_on world h h' grows (back.Wait x) p = p

@@ -42,26 +42,26 @@ module _ (world : World) (w : Setting) (told : List Message) (x p i n : ℕ) (s 
     (was : world.image x ≡ Some s) (young : is_collected world x ≡ true) where
   -- what is asked for there is what the directory tells
   field_asks : (u : SweeperView) → IsReadyIn world u → owner world.sweepers x ≡ u.share.number
-      → asked_in u.places.directory (start_in u.share x) i ≡ asks world (back.Field x i)
+      → asked_in u.places.directory (start_in u.share x) i ≡ asks world (back.Field i x)
   field_asks u ready mine =
       ap (λ o. asked_in u.places.directory o i) (ready.ready.tied.frozen x s was mine young)
       ∙ asked_is world u x i s ready was
 
   sent_goes : (u : SweeperView) (t : ℕ) → IsReadyIn world u → owner world.sweepers x ≡ u.share.number
-      → asks world (back.Field x i) ≡ Some t → owner world.sweepers t ≢ u.share.number
-      → Went world w told u (sends u (message.Forward t (back.Field x i)))
-      (out_standing world (message.Forward t (back.Field x i)) ∷ news_from world w x (i + 1) n)
+      → asks world (back.Field i x) ≡ Some t → owner world.sweepers t ≢ u.share.number
+      → Went world w told u (sends u (message.Forward t (back.Field i x)))
+      (out_standing world (message.Forward t (back.Field i x)) ∷ news_from world w x (i + 1) n)
       (news_from world w x (i + 1) n)
   sent_goes u t ready mine wants other = record {
-    follows = sent_follows world told u (message.Forward t (back.Field x i)) ready (wants, mine, other);
-    goes = ask_goes world w (hand_of u) (news_from world w x (i + 1) n) (message.Forward t (back.Field x i));
+    follows = sent_follows world told u (message.Forward t (back.Field i x)) ready (wants, mine, other);
+    goes = ask_goes world w (hand_of u) (news_from world w x (i + 1) n) (message.Forward t (back.Field i x));
   }
 
   pub field_went : (u u' : SweeperView) → IsReadyIn world u → owner world.sweepers x ≡ u.share.number
       → Contains u.places.own (x, p) → FieldDone u u' x p i
       → Went world w told u u' (news_from world w x i (suc n)) (news_from world w x (i + 1) n)
   field_went u u' ready mine pair (IsPlain none is) =
-      let e : asks world (back.Field x i) ≡ None = sym (field_asks u ready mine) ∙ none in
+      let e : asks world (back.Field i x) ≡ None = sym (field_asks u ready mine) ∙ none in
       subst (λ z. Went world w told u z (news_from world w x i (suc n)) (news_from world w x (i + 1) n)) (sym is)
       (subst (λ l. Went world w told u u l (news_from world w x (i + 1) n)) (sym (news_none world w x i n e))
       (record {
@@ -69,29 +69,29 @@ module _ (world : World) (w : Setting) (told : List Message) (x p i n : ℕ) (s 
         goes = goes_none world w (hand_of u) (news_from world w x (i + 1) n);
       }))
   field_went u u' ready mine pair (IsOwn t q mid c some kept puts) =
-      let e : asks world (back.Field x i) ≡ Some t = sym (field_asks u ready mine) ∙ some in
+      let e : asks world (back.Field i x) ≡ Some t = sym (field_asks u ready mine) ∙ some in
       let own = keep_own world u t ready c in
       let rest : List Standing = news_from world w x (i + 1) n in
-      let at_hand : List Standing = in_standing world (message.Forward t (back.Field x i)) ∷ rest in
-      let k = kept_ready world w told u mid (back.Field x i) t q rest setting ready e own kept in
+      let at_hand : List Standing = in_standing world (message.Forward t (back.Field i x)) ∷ rest in
+      let k = kept_ready world w told u mid (back.Field i x) t q rest setting ready e own kept in
       let same = k.0.steady.alike.number in
       let r = put_ready world told mid u' x p i t q (target_of u.places.directory.targets c.start.generation) c.start
       k.0.ready (mine ∙ sym same) (inr (k.0.own x p pair)) e
-      (can_keep_start world u (back.Field x i) t ready e own c) (inl k.1) (keep_least world u t ready c) puts in
+      (can_keep_start world u (back.Field i x) t ready e own c) (inl k.1) (keep_least world u t ready c) puts in
       subst (λ l. Went world w told u u' l rest) (sym (news_own world w x i n t setting e (own ∙ sym mine)))
       (record {
         follows = follows_on world told u mid u' k.0 r.0;
         goes = goes_on world w (hand_of u) (hand_of mid) (hand_of u') at_hand at_hand rest same k.2
-            (answer_fixes world w (hand_of mid) (hand_of u') rest t q (back.Field x i) setting e (own ∙ sym same)
+            (answer_fixes world w (hand_of mid) (hand_of u') rest t q (back.Field i x) setting e (own ∙ sym same)
             (mine ∙ sym same) k.1 r.1);
       })
   field_went u u' ready mine pair (IsForeign t some foreign is) =
-      let e : asks world (back.Field x i) ≡ Some t = sym (field_asks u ready mine) ∙ some in
+      let e : asks world (back.Field i x) ≡ Some t = sym (field_asks u ready mine) ∙ some in
       let other : owner world.sweepers t ≢ u.share.number =
       λ z. foreign (ap (λ n. owner n t) (sym ready.fits.sweepers) ∙ z) in
       subst (λ z. Went world w told u z (news_from world w x i (suc n)) (news_from world w x (i + 1) n)) (sym is)
       (subst
-      (λ l. Went world w told u (sends u (message.Forward t (back.Field x i))) l (news_from world w x (i + 1) n))
+      (λ l. Went world w told u (sends u (message.Forward t (back.Field i x))) l (news_from world w x (i + 1) n))
       (sym (news_other world w x i n t setting e (λ z. other (z ∙ mine))))
       (sent_goes u t ready mine e other))
 
@@ -185,7 +185,7 @@ swept_up_to v u x p i j next done order within none =
 
 -- fields that ask for nothing have no slots
 news_nothing : (world : World) (w : Setting) (x i n : ℕ)
-    → ((j : ℕ) → i ≤ j → j < i + n → asks world (back.Field x j) ≡ None) → news_from world w x i n ≡ []
+    → ((j : ℕ) → i ≤ j → j < i + n → asks world (back.Field j x) ≡ None) → news_from world w x i n ≡ []
 news_nothing world w x i zero none = refl
 news_nothing world w x i (suc n) none =
     news_none world w x i n (none i (omega arith) (omega arith))
@@ -193,7 +193,7 @@ news_nothing world w x i (suc n) none =
 
 -- nor does what is no strong field
 plain_asks : (world : World) (x j : ℕ) (s : Start) → world.image x ≡ Some s → is_strong s.kind j ≡ false
-    → asks world (back.Field x j) ≡ None
+    → asks world (back.Field j x) ≡ None
 plain_asks world x j s was plain =
     ap (λ o. if_collected world (object_in (strong_value o j))) was
     ∙ ap (λ z. if_collected world (object_in (cond z (value_of (get_or s.words j 0)) None))) plain
@@ -260,6 +260,6 @@ there_words u x p a = words_at a.world u x p a.start a.ready a.was a.mine (inr a
 pub there_keeps : (u : SweeperView) (x p i t : ℕ) → IsThere u x p
     → asked_in u.places.directory (start_in u.share x) i ≡ Some t → owner u.share.sweepers t ≡ u.share.number → CanKeep u t
 there_keeps u x p i t a asked own =
-    let e : asks a.world (back.Field x i) ≡ Some t =
+    let e : asks a.world (back.Field i x) ≡ Some t =
     sym (ap (λ o. asked_in u.places.directory o i) a.here ∙ asked_is a.world u x i a.start a.ready a.was) ∙ asked in
-    can_keep a.world u (back.Field x i) t a.ready e (ap (λ n. owner n t) a.ready.fits.sweepers ∙ own)
+    can_keep a.world u (back.Field i x) t a.ready e (ap (λ n. owner n t) a.ready.fits.sweepers ∙ own)

@@ -43,7 +43,7 @@ asked_at world v (Some b) ready started =
 
 -- so it tells what a field asks for
 pub asked_is : (world : World) (v : SweeperView) (x i : ℕ) (s : Start) → IsReadyIn world v → world.image x ≡ Some s
-    → asked_in v.places.directory (Some s) i ≡ asks world (back.Field x i)
+    → asked_in v.places.directory (Some s) i ≡ asks world (back.Field i x)
 asked_is world v x i s ready was =
     ap (λ o. asked_in v.places.directory o i) (sym was)
     ∙ asked_at world v (object_in (strong_value (world.image x) i)) ready (λ b e. ready.is_world.fields x i b e)
@@ -83,7 +83,7 @@ words_at world v x p s ready was mine at =
 pub has_word : (world : World) (v : SweeperView) (b : Slot) (t : ℕ) → IsReadyIn world v → asks world b ≡ Some t
     → holder_of world.sweepers b ≡ v.share.number → IsPlaced world (hand_of v) b → HasWord v b
 has_word world v (back.Register r) t ready wants mine placed = ready.fits.registers r t wants mine
-has_word world v (back.Field x i) t ready wants mine placed =
+has_word world v (back.Field i x) t ready wants mine placed =
     let f = field_in world x i t wants in
     record {
       at = (placed.0, at_told world v x placed.0 f.start ready f.is placed.1);

@@ -38,10 +38,10 @@ known_generation world own told g b t q s agrees wants is (inr c) = agrees.moved
 -- field i of x, which stands at p and asks for t, has the place q
 module _ (world : World) (told : List Message) (v v' : SweeperView) (x p i t q refers : ℕ) (s : Start)
     (ready : IsReadyIn world v) (mine : owner world.sweepers x ≡ v.share.number) (at : IsAt world v.places.own x p)
-    (wants : asks world (back.Field x i) ≡ Some t) (is : world.image t ≡ Some s)
-    (known : IsKnownPlace v.places.own told (back.Field x i) t q) (least : refers ≤ goes_to world.targets s.generation)
+    (wants : asks world (back.Field i x) ≡ Some t) (is : world.image t ≡ Some s)
+    (known : IsKnownPlace v.places.own told (back.Field i x) t q) (least : refers ≤ goes_to world.targets s.generation)
     (puts : Puts v v' p i q refers) where
-  put_done : IsWritten world (hand_of v) (hand_of v') (back.Field x i) q × Tied world (hand_of v')
+  put_done : IsWritten world (hand_of v) (hand_of v') (back.Field i x) q × Tied world (hand_of v')
   put_done =
       put_writes world (hand_of v) (hand_of v') x p i t puts.word q ready.ready.tied mine at wants puts.is_word puts.put
 
@@ -62,12 +62,12 @@ module _ (world : World) (told : List Message) (v v' : SweeperView) (x p i t q r
   lower : (g : ℕ → Option ℕ) → Agrees world v'.places.own told g → (h : ℕ) → g q ≡ Some h → refers ≤ h
   lower g agrees h e =
       let to : g q ≡ Some (goes_to world.targets s.generation) =
-      known_generation world v.places.own told g (back.Field x i) t q s
+      known_generation world v.places.own told g (back.Field i x) t q s
       (subst (λ l. Agrees world l told g) puts.put.own agrees) wants is known in
       let same : goes_to world.targets s.generation ≡ h = same_Some _ _ (sym to ∙ e) in
       omega (arith, least, same)
 
-  pub put_ready : Follows world told v v' × IsWritten world (hand_of v) (hand_of v') (back.Field x i) q
+  pub put_ready : Follows world told v v' × IsWritten world (hand_of v) (hand_of v') (back.Field i x) q
   put_ready = (
     record {
       ready = put_is_ready;
@@ -123,7 +123,7 @@ pub written_ready : (world : World) (told : List Message) (v v' : SweeperView) (
     → Follows world told v v' × IsWritten world (hand_of v) (hand_of v') b q
 written_ready world told v v' (back.Register r) t q refers s ready wants is mine known least done =
     set_ready world told v v' r t q ready wants done
-written_ready world told v v' (back.Field x i) t q refers s ready wants is mine known least done =
+written_ready world told v v' (back.Field i x) t q refers s ready wants is mine known least done =
     let f = field_in world x i t wants in
     put_ready world told v v' x done.0 i t q refers s ready mine
     (at_known world v x done.0 f.start ready f.is done.1) wants is known least done.2

@@ -108,7 +108,7 @@ AsksOfRegisters d s = OfFirst (AsksOfRegister d s)
 
 -- field i of x
 abbrev pub AsksAt : DirectoryView → TerritoryView → ℕ → ℕ → Slot → ℕ → Type 0
-AsksAt d t x i b u = (b ≡ back.Field x i) × (asked_in d (get t.starts x) i ≡ Some u)
+AsksAt d t x i b u = (b ≡ back.Field i x) × (asked_in d (get t.starts x) i ≡ Some u)
 
 -- the words of x from one on and before another, under cards that tell of collected generations, ask for nothing
 abbrev pub AskNothingOld : DirectoryView → TerritoryView → ℕ → ℕ → ℕ → Type 0

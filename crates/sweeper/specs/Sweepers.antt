@@ -164,13 +164,13 @@ pub record HasField (v : SweeperView) (x i : ℕ) : Type 0 where
 
 abbrev pub HasWord : SweeperView → Slot → Type 0
 HasWord v (back.Register r) = IsSome (register_in v.registers r)
-HasWord v (back.Field x i) = HasField v x i
+HasWord v (back.Field i x) = HasField v x i
 HasWord v _ = ⊥
 
 -- the slot has the place q
 abbrev pub Writes : SweeperView → SweeperView → Slot → ℕ → ℕ → Type 0
 Writes old new (back.Register r) q refers = Sets old new r q
-Writes old new (back.Field x i) q refers = (p : ℕ) × IsAtIn old x p × Puts old new p i q refers
+Writes old new (back.Field i x) q refers = (p : ℕ) × IsAtIn old x p × Puts old new p i q refers
 Writes old new _ q refers = ⊥
 
 -- What is done with field i of x, whose copy stands at p: nothing where it asks for nothing; where it asks for an object
@@ -181,7 +181,7 @@ pub data FieldDone (old new : SweeperView) (x p i : ℕ) : Type 0 where
       → IsKept old mid t q → Puts mid new p i q (target_of old.places.directory.targets c.start.generation)
       → FieldDone old new x p i
   IsForeign : (t : ℕ) → asked_in old.places.directory (start_in old.share x) i ≡ Some t
-      → owner old.share.sweepers t ≢ old.share.number → new ≡ sends old (message.Forward t (back.Field x i))
+      → owner old.share.sweepers t ≢ old.share.number → new ≡ sends old (message.Forward t (back.Field i x))
       → FieldDone old new x p i
 
 -- ---- pairs that are followed
