@@ -1,9 +1,7 @@
 -- Pairs that are copied from one segment to another.
-use Rattle.std.proofs.Common.{suc, ◌-◌, ◌++◌, Bool, set, ◌≡◌, ℕ, ◌+◌, ◌*◌, ◌/◌, ◌%◌, ◌<◌, ◌≤◌, List, [], ◌∷◌, length, get_or, drop, sym, ◌∙◌, ap, subst, arith, inl, inr, get_or-set_same, get_or-set_other}
+use Rattle.std.proofs.Common.{suc, ◌-◌, ◌++◌, Bool, set, ◌≡◌, ℕ, ◌+◌, ◌*◌, ◌/◌, ◌<◌, ◌≤◌, List, [], ◌∷◌, length, get_or, drop, sym, ◌∙◌, ap, subst, arith, inl, inr, get_or-set_same, get_or-set_other}
 use Rattle.std.proofs.lemmas.Bool.{cases_eq, cases_lt}
 use Rattle.std.proofs.lemmas.List.{get_or_default, get_or_append_left, get_or-append_right, set-append_left, set-append_right, length-append, ext_get_or, get_or_past, get_or-take, get_or-drop, length-set}
-use Rattle.gc_words.specs.Layout.{address_of, thread_of, segment_of, offset_of}
-use Rattle.gc_words.proofs.LayoutLaws.{address_of-its_parts}
 use Rattle.segment.specs.declared.space.Space.TheVariants as space
 use Rattle.segment.specs.Layout.{kind_of, length_of, count_of, size_of}
 use Rattle.segment.specs.Segments.{vacant, HasRoom, IsSound, IsStart, Segment, first_at, place_in, put_in, size_at, words_at}
@@ -26,15 +24,6 @@ start_small p k sound size start =
       | inl near ↦ omega (arith, sound.births)
       | inr far ↦ absurd (start.1 (get_or_past p.births k 0 far))
     ]
-
--- the address of a start of a segment of a thread
-pub address_at : (a thread n o : ℕ) → thread_of a ≡ thread → segment_of a ≡ n → offset_of a ≡ o → o % 2 ≡ 0
-    → a ≡ address_of thread n (2 * (o / 2))
-address_at a thread n o t s is even =
-    let o_is : offset_of a ≡ 2 * (o / 2) = omega arith in
-    sym (address_of-its_parts a)
-    ∙ (ap (λ v. address_of v (segment_of a) (offset_of a)) t
-    ∙ (ap (λ v. address_of thread v (offset_of a)) s ∙ ap (address_of thread n) o_is))
 
 -- ---- pairs have two words
 

@@ -75,41 +75,31 @@ pub fn object_in(word: u64) -> Option<Address>
     }
 }
 
-/// The number of the start at an address, where that lies in this segment of a thread.
+/// The number of the start to which a word refers, where that may be one in the first 512 words of this segment: the word is
+/// that of the segment's first object and 16 times the number more.
 #[inline(always)]
-fn start_at(segment: &Segment, thread: u8, number: usize, at: Address) -> Option<usize>
-    requires sound { IsSound segment.now }
-    requires size { length segment.now.words ≤ 512 }
-    ensures object { IfSome result (λ k. at ≡ address_of thread number (2 * k)) }
-    ensures start { IfSome result (IsStart segment.now) }
+fn start_of(word: u64, thread: u8, segment: usize) -> Option<usize>
+    requires { HasParts thread segment 0 }
+    ensures object { IfSome result (λ k. value_of word ≡ Some (value.Object (address_of thread segment (2 * k)))) }
     ensures small { IfSome result (λ k. k < 256) }
 {
-    if at.thread() != thread || at.segment() != number as u64 {
-        return None;
-    }
-    let offset = at.offset() as usize;
-    if segment.is_start(offset) {
-        Some(offset / 2)
-    } else {
-        None
-    }
-}
-
-/// The number of the start to which a word refers, where that may be one of the segment `from`: the word is that of the
-/// segment's first object and 16 times the number more.
-#[inline(always)]
-fn start_of(word: u64, between: Between) -> Option<usize>
-    requires { HasParts between.thread between.from 0 }
-    ensures object { IfSome result (λ k. value_of word ≡ Some (value.Object (object_at between k))) }
-    ensures small { IfSome result (λ k. k < 256) }
-{
-    let first = encode(Value::Object(between.object(0)));
+    let first = encode(Value::Object(Address::at(thread, segment as u64, 0)));
     let start = word.wrapping_sub(first).rotate_right(4);
     if start < 256 {
         Some(start as usize)
     } else {
         None
     }
+}
+
+/// The number of the start that may be at an address, where that lies in the first 512 words of this segment.
+#[inline(always)]
+fn start_at(at: Address, thread: u8, segment: usize) -> Option<usize>
+    requires { HasParts thread segment 0 }
+    ensures object { IfSome result (λ k. at ≡ address_of thread segment (2 * k)) }
+    ensures small { IfSome result (λ k. k < 256) }
+{
+    start_of(encode(Value::Object(at)), thread, segment)
 }
 
 /// The same, where something starts there that has no place. The births of `from` are lent apart, so that they stay at hand.
@@ -131,7 +121,7 @@ fn unplaced(
     ensures small { IfSome result (λ k. k < 256) }
     ensures unplaced { IfSome result (λ k. slice_index places.now k ≡ 0) }
 {
-    let k = start_of(word, between)?;
+    let k = start_of(word, between.thread, between.from)?;
     if births[k] > 0 && places[k] == NO_PLACE {
         Some(k)
     } else {
@@ -233,18 +223,20 @@ fn sweep_car(
 }
 
 /// Takes the pair that waits last, where it and its copy lie in the two segments. Gives its number of start, and the offset
-/// of its copy.
+/// of its copy. The births of `from` are lent apart, so that they stay at hand.
 #[inline(always)]
 fn take_waiting(
     from: &Segment,
+    births: &[u32],
     to: &Segment,
     between: Between,
     log: &mut CopyLog,
 ) -> Option<(usize, usize)>
-    requires from_sound { IsSound from.now }
-    requires to_sound { IsSound to.now }
-    requires from_size { length from.now.words ≤ 512 }
-    requires to_size { length to.now.words ≤ 512 }
+    requires births { births.now ≡ from.now.births }
+    requires from_parts { HasParts between.thread between.from 0 }
+    requires to_parts { HasParts between.thread between.to 0 }
+    requires used { is_free from.now.role ≡ false }
+    requires starts { length from.now.births ≡ 256 }
     ensures start { IfSome result (λ t. IsStart from.now t.0) }
     ensures copy { IfSome result (λ t. IsStart to.now (t.1 / 2)) }
     ensures even { IfSome result (λ t. t.1 % 2 ≡ 0) }
@@ -255,8 +247,11 @@ fn take_waiting(
     ensures same { IfNone result (log.new.waiting ≡ log.old.waiting) }
 {
     let (object, copy) = *log.waiting.last()?;
-    let k = start_at(from, between.thread, between.from, object)?;
-    let q = start_at(to, between.thread, between.to, copy)?;
+    let k = start_at(object, between.thread, between.from)?;
+    let q = start_at(copy, between.thread, between.to)?;
+    if births[k] == 0 || !to.is_start(2 * q) {
+        return None;
+    }
     log.waiting.pop();
     Some((k, 2 * q))
 }
@@ -297,13 +292,12 @@ fn sweep_cdr(
         if object_in(tip.cdr).is_some() {
             return None;
         }
-        let (start, offset) = take_waiting(from, to, between, log)?;
-        let (car, cdr) = from.two_words(start);
+        let (start, offset) = take_waiting(from, births, to, between, log)?;
         return Some(Tip {
             start,
             offset,
-            car,
-            cdr,
+            car: words[2 * start],
+            cdr: words[2 * start + 1],
         });
     };
     if !to.has_room_for_two() {

@@ -6,5 +6,5 @@ use Rattle.territory.proofs.pool.following.start_of.Goals as goal
 
 pub returns-then-start-lt256-clause-object : goal.returns-then-start-lt256-clause-object
 returns-then-start-lt256-clause-object c =
-    start_turned c.args.word c.encode-first.result _ _ c.args.between.thread c.args.between.from c.ranges.word.fits c.requires.thread_in c.requires.segment_in
-    (c.encode-first.ensures.word ∙ ap (λ a. word_of (Object a)) c.object.ensures) refl c.rotate_right-start.ensures c.if-start-lt256.true
+    start_turned c.args.word c.encode-first.result _ _ c.args.thread c.args.segment c.ranges.word.fits c.requires.thread_in c.requires.segment_in
+    (c.encode-first.ensures.word ∙ ap (λ a. word_of (Object a)) c.at.ensures.value) refl c.rotate_right-start.ensures c.if-start-lt256.true
